@@ -1,0 +1,12 @@
+pub mod Float64
+pub mod Root
+pub mod FloorRoot
+pub mod NearestRoot
+pub mod RootByDigits
+pub mod RootLaws
+pub mod Sign
+pub mod Patterns
+pub mod Hypot
+pub mod Power
+pub mod Units
+pub mod Order

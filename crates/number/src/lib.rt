@@ -1,0 +1,197 @@
+// What the library needs of numbers beyond the four operations: square root, hypot, sign, powers, the ranking order and bit patterns.
+// Every call is total and equal to a definition in specs/.
+mod root_digits;
+
+ghost use mathlib.Core.Path.{_≡_};
+ghost use Prim.Native.Nat.{ℕ, _+_, _*_, _^_, _<_, _≤_};
+ghost use lib.Ieee.{binary64, ofBits, toBits};
+ghost use Rattle.number.specs.Root.{rootOfUnits, rootOf};
+ghost use Rattle.number.specs.Sign.{negative, magnitudeOf, signumOf};
+ghost use Rattle.number.specs.Hypot.{longOf, hypotOf};
+ghost use Rattle.number.specs.Power.{powerOf, timesIfOdd, squareUnlessZero};
+ghost use Rattle.number.specs.Order.{ranksBefore};
+
+// The root of m * 2^52 * 2^z / 2^2148.
+fn scaled(m: u64, z: u64) -> f64
+    requires { ⌜ 2 ^ 52 ≤ m ⌝ ∗ ⌜ m < 2 ^ 53 ⌝ ∗ ⌜ z < 3068 ⌝ }
+    ensures { λ r. ⌜ ((n : ℕ) → n * 2 ^ 1074 ≡ m * 2 ^ 52 * 2 ^ z → r ≡ rootOfUnits binary64 n) ⌝ }
+{
+    let odd = z % 2;
+    let q = root_digits::significand(m * (1 + odd), m - 4503599627370496, odd);
+    f64::from_bits(z / 2 * 4503599627370496 + q)
+}
+
+// The root of b * 2^-1074.
+fn subnormal(b: u64) -> f64
+    requires { ⌜ 0 < b ⌝ ∗ ⌜ b < 2 ^ 52 ⌝ }
+    ensures { λ r. ⌜ r ≡ rootOfUnits binary64 b ⌝ }
+{
+    let mut m = b;
+    let mut z = 1022u64;
+    while m < 4503599627370496 {
+        m = m * 2;
+        z = z - 1;
+    }
+    scaled(m, z)
+}
+
+// The square root of x, rounded once.
+pub fn root(x: f64) -> f64
+    ensures { λ r. ⌜ r ≡ rootOf x ⌝ }
+{
+    if x > 0.0 {
+        let b = f64::to_bits(x);
+        let e = b / 4503599627370496;
+        if e == 2047 {
+            x
+        } else if e == 0 {
+            subnormal(b)
+        } else {
+            scaled(b % 4503599627370496 + 4503599627370496, e + 1021)
+        }
+    } else if x == 0.0 {
+        x
+    } else {
+        0.0 / 0.0
+    }
+}
+
+// The number that a bit pattern stands for. Every NaN's pattern gives the one NaN.
+pub fn number_of_bits(bits: u64) -> f64
+    ensures { λ r. ⌜ r ≡ ofBits binary64 bits ⌝ }
+{
+    if 0x7ff0_0000_0000_0000 < bits % 0x8000_0000_0000_0000 {
+        0.0 / 0.0
+    } else {
+        f64::from_bits(bits)
+    }
+}
+
+// The bit pattern of a number. A NaN's is 7ff8000000000000.
+pub fn bits_of_number(x: f64) -> u64
+    ensures { λ r. ⌜ r ≡ toBits binary64 x ⌝ }
+{
+    if x != x {
+        0x7ff8_0000_0000_0000
+    } else {
+        f64::to_bits(x)
+    }
+}
+
+// Rust's abs: the number without its sign.
+pub fn magnitude(x: f64) -> f64
+    ensures { λ r. ⌜ r ≡ magnitudeOf x ⌝ }
+{
+    if x != x {
+        x
+    } else {
+        f64::from_bits(f64::to_bits(x) % 0x8000_0000_0000_0000)
+    }
+}
+
+// Whether the sign bit is set; false for NaN.
+fn is_negative(x: f64) -> bool
+    ensures { λ r. ⌜ r ≡ negative x ⌝ }
+{
+    if x != x {
+        false
+    } else {
+        0x8000_0000_0000_0000 <= f64::to_bits(x)
+    }
+}
+
+// 1 or -1 by the sign bit, NaN for NaN.
+pub fn signum(x: f64) -> f64
+    ensures { λ r. ⌜ r ≡ signumOf x ⌝ }
+{
+    if x != x {
+        x
+    } else if is_negative(x) {
+        -1.0
+    } else {
+        1.0
+    }
+}
+
+// Of the larger of two sizes, g, and the smaller, h.
+fn long(g: f64, h: f64) -> f64
+    ensures { λ r. ⌜ r ≡ longOf g h ⌝ }
+{
+    if g == 0.0 {
+        return 0.0;
+    }
+    let t = h / g;
+    g * root(1.0 + t * t)
+}
+
+// The length of the vector (x, y).
+pub fn hypot(x: f64, y: f64) -> f64
+    ensures { λ r. ⌜ r ≡ hypotOf x y ⌝ }
+{
+    let a = magnitude(x);
+    let b = magnitude(y);
+    let infinity = 1.0 / 0.0;
+    if a == infinity {
+        return a;
+    }
+    if b == infinity {
+        return b;
+    }
+    if x != x {
+        return x;
+    }
+    if y != y {
+        return y;
+    }
+    if a < b {
+        return long(b, a);
+    }
+    long(a, b)
+}
+
+fn times_if_odd(e: usize, r: f64, b: f64) -> f64
+    ensures { λ x. ⌜ x ≡ timesIfOdd e r b ⌝ }
+{
+    if e % 2 == 1 { r * b } else { r }
+}
+
+fn square_unless_zero(e: usize, b: f64) -> f64
+    ensures { λ x. ⌜ x ≡ squareUnlessZero e b ⌝ }
+{
+    if e == 0 { b } else { b * b }
+}
+
+// base to the exponent, by squaring.
+pub fn powi(base: f64, exponent: usize) -> f64
+    ensures { λ x. ⌜ x ≡ powerOf base exponent ⌝ }
+{
+    let mut r = 1.0;
+    let mut b = base;
+    let mut e = exponent;
+    while e > 0 {
+        r = times_if_odd(e, r, b);
+        e = e / 2;
+        b = square_unless_zero(e, b);
+    }
+    r
+}
+
+// Whether x comes before y in a falling ranking: NaN first, then plus infinity and so on down, +0 before -0.
+pub fn ranks_before(x: f64, y: f64) -> bool
+    ensures { λ r. ⌜ r ≡ ranksBefore x y ⌝ }
+{
+    if y < x {
+        return true;
+    }
+    if y == x {
+        // they are the same number, or the two zeros
+        if is_negative(x) {
+            return false;
+        }
+        return is_negative(y);
+    }
+    if x != x {
+        return y == y;
+    }
+    false
+}

@@ -1,0 +1,58 @@
+-- Document 01's number of each refusal, and what a place holds after a call that may be refused. Assumes nothing.
+use mathlib.Core.Path.{_≡_, refl}
+use mathlib.Core.Bool.{Bool, true, false, cond}
+use Prim.Native.Nat.{ℕ}
+use lib.Ieee.{Float}
+use Rattle.refusal.specs.declared.Answer.{Answer}
+use Rattle.refusal.specs.declared.Answer.the-variants.{Done, Refused}
+use Rattle.refusal.specs.declared.Number.{Number}
+use Rattle.refusal.specs.declared.Number.the-variants.{Value}
+use Rattle.refusal.specs.declared.Number.the-variants.{Refused as NoValue}
+use Rattle.refusal.specs.declared.Refusal.{Refusal}
+use Rattle.refusal.specs.declared.Refusal.the-variants.{Size, Length, Space, Place, Love, Short, Kind, After, Tide}
+
+abbrev pub refusalNumber : Refusal → ℕ
+refusalNumber Size = 1
+refusalNumber Length = 2
+refusalNumber Space = 3
+refusalNumber Place = 4
+refusalNumber Love = 5
+refusalNumber Short = 6
+refusalNumber Kind = 7
+refusalNumber After = 8
+refusalNumber Tide = 9
+
+-- 0 where the call is done
+abbrev pub answerNumber : Answer → ℕ
+answerNumber Done = 0
+answerNumber (Refused e) = refusalNumber e
+
+abbrev pub valueNumber : Number → ℕ
+valueNumber (Value x) = 0
+valueNumber (NoValue e) = refusalNumber e
+
+-- what a single number that was lent for the value holds afterwards
+abbrev pub valueAfter : Number → Float → Float
+valueAfter (Value x) old = x
+valueAfter (NoValue e) old = old
+
+-- what a list holds after a call that answered: what the work makes of it, or, refused, what it held
+abbrev pub after {ℓ} : {A : Type ℓ} → Answer → A → A → A
+after Done made old = made
+after (Refused e) made old = old
+
+-- a ground that holds refuses, before what comes after it is looked at
+unfoldable pub refuse : Bool → Refusal → Answer → Answer
+refuse ground e other = cond ground (Refused e) other
+
+pub refuse-yes : {ground : Bool} (e : Refusal) (other : Answer) → ground ≡ true → refuse ground e other ≡ Refused e
+unfolding refuse
+refuse-yes e other h = rw h refl
+
+pub refuse-no : {ground : Bool} (e : Refusal) (other : Answer) → ground ≡ false → refuse ground e other ≡ other
+unfolding refuse
+refuse-no e other h = rw h refl
+
+-- the same for a call that works out one number
+unfoldable pub refuseValue : Bool → Refusal → Number → Number
+refuseValue ground e other = cond ground (NoValue e) other

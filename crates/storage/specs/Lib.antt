@@ -1,0 +1,9 @@
+pub mod Elements
+pub mod Fill
+pub mod Filled
+pub mod Store
+pub mod Iterate
+pub mod Fold
+pub mod Tabulate
+pub mod Triangle
+pub mod Answers
