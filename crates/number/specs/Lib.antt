@@ -10,3 +10,6 @@ pub mod Hypot
 pub mod Power
 pub mod Units
 pub mod Order
+pub mod OrderLaws
+pub mod Ranking
+pub mod RankingLaws

@@ -1,0 +1,18 @@
+//! Writing of Rattle constants: arrays of u64.
+
+/// A number as its bit pattern in hexadecimal, any NaN as 7ff8000000000000.
+pub fn number(x: f64) -> String {
+    hexadecimal(crate::tally::pattern(x))
+}
+
+/// A word in hexadecimal, in groups of four digits.
+pub fn hexadecimal(bits: u64) -> String {
+    format!("0x{:04x}_{:04x}_{:04x}_{:04x}", bits >> 48, bits >> 32 & 0xffff, bits >> 16 & 0xffff, bits & 0xffff)
+}
+
+/// A constant array of numbers written out, in the layout of `rt fmt`: on one line where it is short, else one to a line.
+pub fn array(comment: &str, name: &str, numbers: &[String]) -> String {
+    let line = numbers.join(", ");
+    let list = if line.len() <= 58 { line } else { format!("\n    {},\n", numbers.join(",\n    ")) };
+    format!("\n// {comment}\npub const {name}: [u64; {}] = [{list}];\n", numbers.len())
+}

@@ -1,0 +1,25 @@
+//! Lists that a caller lends: pairs for latitudes, cosines and sines for longitudes.
+
+use core::f64::consts::TAU;
+
+/// A latitude (radians) as its sine and cosine.
+pub fn pair(lat: f64) -> (f64, f64) {
+    lat.sin_cos()
+}
+
+/// Cosine and sine of m times a longitude (radians), m from 0 to nmax.
+pub fn orders(lon: f64, nmax: usize) -> Vec<(f64, f64)> {
+    (0..=nmax).map(|m| ((m as f64 * lon).cos(), (m as f64 * lon).sin())).collect()
+}
+
+/// What `analysis` reads: cosine and sine of m times the longitude j of 2·nmax + 2, order after order.
+pub fn analysis_orders(nmax: usize) -> Vec<(f64, f64)> {
+    let count = 2 * nmax + 2;
+    let angle = |m: usize, j: usize| m as f64 * TAU * j as f64 / count as f64;
+    (0..=nmax).flat_map(|m| (0..count).map(move |j| (angle(m, j).cos(), angle(m, j).sin()))).collect()
+}
+
+/// The pairs of the L+1 Gauss–Legendre `nodes` carried over to a cap with the cosine `x0`.
+pub fn cap_pairs(x0: f64, nodes: &[f64]) -> Vec<(f64, f64)> {
+    nodes.iter().map(|x| pair((x0 + (1.0 - x0) * (x + 1.0) / 2.0).asin())).collect()
+}

@@ -1,0 +1,103 @@
+//! Holds the proved library against the oracle, the published Rust with document 01's stand-ins.
+
+mod cases;
+mod constants;
+mod entries;
+mod lent;
+mod number;
+mod oracle_check;
+mod tally;
+mod timing;
+
+use std::process::ExitCode;
+use std::time::{SystemTime, UNIX_EPOCH};
+
+use tally::Report;
+
+const USAGE: &str = "\
+usage: compare [--seed NUMBER] [--quick] [SUBJECT...]   same bits as the oracle, on every subject or on those named
+       compare oracle                                   only check that the oracle itself works
+       compare bench [SUBJECT...]                       ours, the Rust's, their ratio
+       compare replay SUBJECT FILE                      write the oracle's answers as Rattle constants
+subjects: number";
+
+/// One crate of the library: what can be done with it here.
+struct Subject {
+    name: &'static str,
+    compare: fn(&mut Report),
+    bench: fn(),
+    replay: fn() -> String,
+}
+
+const SUBJECTS: &[Subject] =
+    &[Subject { name: "number", compare: number::compare, bench: number::bench::bench, replay: number::replay::replay }];
+
+fn subject(name: &str) -> Result<&'static Subject, String> {
+    SUBJECTS.iter().find(|s| s.name == name).ok_or_else(|| format!("no subject or option {name}\n{USAGE}"))
+}
+
+/// The named subjects, or all where none is named.
+fn subjects(names: &[&str]) -> Result<Vec<&'static Subject>, String> {
+    if names.is_empty() { Ok(SUBJECTS.iter().collect()) } else { names.iter().map(|name| subject(name)).collect() }
+}
+
+/// A seed in decimal, or in hexadecimal after 0x.
+fn parse_seed(text: &str) -> Result<u64, String> {
+    text.strip_prefix("0x").map_or_else(|| text.parse(), |digits| u64::from_str_radix(digits, 16)).map_err(|e| format!("seed {text}: {e}"))
+}
+
+fn compare(arguments: &[&str]) -> Result<bool, String> {
+    let mut seed = SystemTime::now().duration_since(UNIX_EPOCH).map_or(1, |d| d.as_nanos() as u64);
+    let (mut quick, mut names) = (false, Vec::new());
+    let mut rest = arguments.iter();
+    while let Some(&argument) = rest.next() {
+        match argument {
+            "--seed" => seed = parse_seed(rest.next().ok_or(USAGE)?)?,
+            "--quick" => quick = true,
+            name => names.push(name),
+        }
+    }
+    let chosen = subjects(&names)?;
+    println!("seed {seed:#x}{}", if quick { ", quick" } else { "" });
+    let mut report = Report::new(seed, if quick { 100 } else { 1 });
+    oracle_check::check(&mut report);
+    for subject in chosen {
+        (subject.compare)(&mut report);
+    }
+    Ok(report.all_same())
+}
+
+fn dispatch(arguments: &[&str]) -> Result<bool, String> {
+    match arguments {
+        ["help" | "--help" | "-h"] => println!("{USAGE}"),
+        ["oracle"] => {
+            let mut report = Report::new(1, 1);
+            oracle_check::check(&mut report);
+            return Ok(report.all_same());
+        }
+        ["bench", names @ ..] => {
+            let chosen = subjects(names)?;
+            timing::header();
+            chosen.iter().for_each(|subject| (subject.bench)());
+        }
+        ["replay", name, file] => {
+            let text = (subject(name)?.replay)();
+            std::fs::write(file, text).map_err(|e| format!("{file}: {e}"))?;
+        }
+        ["replay", ..] => return Err(USAGE.to_string()),
+        _ => return compare(arguments),
+    }
+    Ok(true)
+}
+
+fn main() -> ExitCode {
+    let arguments: Vec<String> = std::env::args().skip(1).collect();
+    match dispatch(&arguments.iter().map(String::as_str).collect::<Vec<_>>()) {
+        Ok(true) => ExitCode::SUCCESS,
+        Ok(false) => ExitCode::FAILURE,
+        Err(message) => {
+            eprintln!("{message}");
+            ExitCode::from(2)
+        }
+    }
+}

@@ -1,0 +1,81 @@
+//! Timing of ours against the Rust's, in one run.
+
+use std::hint::black_box;
+use std::time::Instant;
+
+const ROUNDS: usize = 21;
+
+pub fn header() {
+    println!("{:<36}{:>12}{:>12}{:>12}", "ns a call, median", "ours", "Rust", "ours/Rust");
+}
+
+fn median(mut times: Vec<f64>) -> f64 {
+    times.sort_by(f64::total_cmp);
+    times[times.len() / 2]
+}
+
+/// Time two pieces of work of `calls` calls each, turn by turn, and print the medians.
+pub fn race<A>(name: &str, calls: usize, mut ours: impl FnMut() -> A, mut rust: impl FnMut() -> A) {
+    let time = |work: &mut dyn FnMut() -> A| {
+        let start = Instant::now();
+        black_box(work());
+        start.elapsed().as_nanos() as f64 / calls as f64
+    };
+    time(&mut ours);
+    time(&mut rust);
+    let (ours, rust): (Vec<f64>, Vec<f64>) = (0..ROUNDS).map(|_| (time(&mut ours), time(&mut rust))).unzip();
+    let (ours, rust) = (median(ours), median(rust));
+    println!("{name:<36}{ours:>12.2}{rust:>12.2}{:>12.2}", ours / rust);
+}
+
+/// An answer as a word, so that a loop can use it.
+pub trait Answer {
+    fn word(self) -> u64;
+}
+
+impl Answer for f64 {
+    fn word(self) -> u64 {
+        self.to_bits()
+    }
+}
+
+impl Answer for u64 {
+    fn word(self) -> u64 {
+        self
+    }
+}
+
+impl Answer for u32 {
+    fn word(self) -> u64 {
+        self as u64
+    }
+}
+
+/// Throughput: independent inputs of a list. The answers are folded into a word, not into a sum of floats, which would lie in
+/// memory over each call and cost more than the call.
+pub fn throughput<T: Copy, A: Answer>(name: &str, inputs: &[T], passes: usize, ours: impl Fn(T) -> A, rust: impl Fn(T) -> A) {
+    fn fold<T: Copy, A: Answer>(inputs: &[T], passes: usize, f: impl Fn(T) -> A) -> u64 {
+        let mut word = 0u64;
+        for _ in 0..passes {
+            for &x in black_box(inputs) {
+                word = word.rotate_left(1) ^ f(x).word();
+            }
+        }
+        word
+    }
+    race(name, inputs.len() * passes, || fold(inputs, passes, &ours), || fold(inputs, passes, &rust));
+}
+
+/// Latency: every input is a number of a list plus the answer before it, so the time has one addition in it.
+pub fn latency(name: &str, inputs: &[f64], passes: usize, ours: impl Fn(f64) -> f64, rust: impl Fn(f64) -> f64) {
+    fn chain(inputs: &[f64], passes: usize, f: impl Fn(f64) -> f64) -> f64 {
+        let mut answer = 0.0;
+        for _ in 0..passes {
+            for &x in black_box(inputs) {
+                answer = f(x + answer);
+            }
+        }
+        answer
+    }
+    race(name, inputs.len() * passes, || chain(inputs, passes, &ours), || chain(inputs, passes, &rust));
+}
