@@ -1,18 +1,17 @@
 -- The cases that `root` tells apart: what a pattern stands for where that is above zero, and `squareRoot` of what is not above zero. Assumes nothing.
 use mathlib.Core.Path.{_≡_, refl, sym, ap, _∙_, subst}
 use mathlib.Core.Bool.{Bool, true, false, not, cond, true≢false, _&&_, _||_, Bool·beq}
-use Prim.Native.Nat.{ℕ, zero, suc, _+_, _-_, _*_, _/_, _%_, _^_, _≤_, _<_}
-use native.Mathlib.Nat.{le-trans, le-of-eq, lt-of-le-of-lt, lt-of-lt-of-le, lt-irrefl, mul-one, mul-assoc, mul-pos, zero-mul, zero-lt-suc, mod-eq-of-lt, mod-lt}
+use Prim.Native.Nat.{ℕ, zero, suc, _+_, _*_, _/_, _%_, _^_, _<_}
+use native.Mathlib.Nat.{le-of-eq, lt-of-le-of-lt, lt-irrefl, mul-one, mul-pos, zero-mul, zero-lt-suc, mod-eq-of-lt}
 use native.Mathlib.Omega.{arith}
-use lib.Dec.{T, leb, ltb, eqb, lt→ltb, nleb→lt, eqb→eq}
-use lib.IntN.{ℤ, pos, negsuc}
-use lib.Pow.{pow-add, pow-pos}
+use lib.Dec.{T, leb, ltb, eqb, lt→ltb, nleb→lt}
+use lib.Pow.{pow-pos}
 use lib.Ieee.{Float, nan, inf, fin, binary64, up, down, odd, fits, isNan, ofFields, ofBits, toBits, lt, eq, div}
-use lib.Ieee.Fits.{up-pos, down-pos, and-l}
-use lib.Ieee.Bits.{ofBits-toBits, cond-no}
+use lib.Ieee.Fits.{up-pos}
+use lib.Ieee.Bits.{ofBits-toBits}
 use lib.Ieee.Exact.{HasValue, odd-sign}
 use lib.Ieee.Positive.{positive, above, first-pos, value-pos}
-use borrow.Author.Tests.{ltb-true, ltb-false, lt-ltb, eq-eqb, ne-eqb, eqb-true}
+use borrow.Author.Tests.{ltb-true, lt-ltb, eq-eqb, ne-eqb, eqb-true}
 use Rattle.number.specs.Root.{rootOfUnits, squareRoot}
 use Rattle.number.proofs.Patterns.{root-at}
 

@@ -1,13 +1,13 @@
 -- The bit patterns of the values above zero, and `squareRoot` by them. Assumes nothing.
 use mathlib.Core.Path.{_≡_, refl, sym, ap, _∙_, subst}
-use mathlib.Core.Bool.{Bool, true, false, not, cond, true≢false}
-use Prim.Native.Nat.{ℕ, zero, suc, _+_, _-_, _*_, _/_, _%_, _^_, _≤_, _<_}
-use native.Mathlib.Nat.{le-refl, le-trans, le-of-eq, le-of-lt, lt-of-lt-of-le, lt-irrefl, mul-assoc, mul-comm, mul-left-comm, mul-one, mul-pos, zero-mul, mul-div-cancel, mul-le-mul-right, mod-eq-of-lt, mod-lt}
+use mathlib.Core.Bool.{Bool, true, false, cond, true≢false}
+use Prim.Native.Nat.{ℕ, zero, suc, _+_, _-_, _*_, _/_, _^_, _≤_, _<_}
+use native.Mathlib.Nat.{le-trans, le-of-eq, le-of-lt, lt-of-lt-of-le, mul-pos, zero-mul, mul-div-cancel, mul-le-mul-right}
 use native.Mathlib.Omega.{arith}
-use lib.Dec.{T, leb, ltb, eqb, lt→ltb, lit≤, nleb→lt}
-use lib.IntN.{ℤ, pos, negsuc}
+use lib.Dec.{T, ltb, lt→ltb}
+use lib.IntN.{ℤ}
 use lib.Pow.{pow-add, pow-pos, pow-mono, shl-lt}
-use lib.Ieee.{Float, nan, inf, fin, binary64, up, down, size, odd, units, fits, isNan, ofFields, ofBits, toBits, lt}
+use lib.Ieee.{Float, nan, inf, fin, binary64, up, down, size, odd, units, fits, ofBits, toBits, lt}
 use lib.Ieee.Fits.{down-pos, odd-fits}
 use lib.Ieee.Bits.{ofBits-toBits}
 use lib.Ieee.Exact.{HasValue, odd-sign}

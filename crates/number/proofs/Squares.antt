@@ -1,10 +1,10 @@
 -- A square in two digits, compared with a * 2 ^ 52. Assumes nothing.
 use mathlib.Core.Path.{_≡_, refl, sym, ap, _∙_, subst}
 use mathlib.Core.Bool.{Bool, true, false, cond}
-use Prim.Native.Nat.{ℕ, zero, suc, _+_, _-_, _*_, _/_, _%_, _^_, _≤_, _<_}
+use Prim.Native.Nat.{ℕ, _+_, _-_, _*_, _/_, _%_, _^_, _≤_, _<_}
 use native.Mathlib.Nat.{add-assoc, add-comm, add-left-comm, mul-assoc, mul-comm, mul-left-comm, mul-add, add-mul, mul-one, one-mul, mul-le-mul, lt-of-not-le, div-add-mod'}
 use native.Mathlib.Omega.{arith}
-use lib.Dec.{ltb, lit≤}
+use lib.Dec.{ltb}
 use borrow.Author.Tests.{lt-ltb, le-ltb, ltb-true, ltb-false}
 use Rattle.number.specs.NearestRoot.{NearestRoot}
 
@@ -96,10 +96,6 @@ over-of a s H m L e h k = omega arith
 pub over-is : (a q : ℕ) → q / 67108864 * (q / 67108864) + 2 * (q / 67108864) * (q % 67108864) / 67108864 ≤ a + 8
     → over a (q / 67108864 * (q / 67108864)) (2 * (q / 67108864) * (q % 67108864)) (q % 67108864 * (q % 67108864)) + q * q ≡ a * 2 ^ 52 + 54043195528445952
 over-is a q h = over-of a (q * q) (q / 2 ^ 26 * (q / 2 ^ 26)) (2 * (q / 2 ^ 26) * (q % 2 ^ 26)) (q % 2 ^ 26 * (q % 2 ^ 26)) (halves q) h (L-le q)
-
-pub bit-le : (b : Bool) → cond b 1 0 ≤ 1
-bit-le true = lit≤ tt
-bit-le false = lit≤ tt
 
 module _ (a q o : ℕ) (h : 2 ^ 52 ≤ a) (k : a + 2 ≤ 2 ^ 54) (hi : q < 2 ^ 53) (e : o + q * q ≡ a * 2 ^ 52 + 54043195528445952) (top : o ≤ 54043195528445954 + 3 * q) (bottom : 54043195528445954 < o + 3 * q) where
   corrected : (t u : Bool) → ltb (54043195528445952 + q) o ≡ t → ltb 54043195528445952 (o + q) ≡ u → NearestRoot a (q + cond t 1 0 + cond u 1 0 - 1)

@@ -1,5 +1,5 @@
 -- The length of the vector (x, y), by document 01's stand-in for `hypot`. Assumes nothing.
-use mathlib.Core.Path.{_≡_, refl, sym, ap, _∙_}
+use mathlib.Core.Path.{_≡_, refl, sym, _∙_}
 use mathlib.Core.Bool.{true, false, _||_, cond, true≢false}
 use lib.Ieee.{Float, nan, inf, fin, isNan, lt, eq, ne, div, ofBits}
 use Rattle.number.specs.Float64.{_⊕_, _⊗_, _⊘_, zero64, one64}

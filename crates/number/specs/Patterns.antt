@@ -1,12 +1,12 @@
 -- Numbers and bit patterns: they undo each other off NaN, a NaN's pattern gives the one NaN, and the sign is the top bit. Assumes nothing.
 use mathlib.Core.Path.{_≡_, refl, sym, ap, _∙_, subst}
 use mathlib.Core.Bool.{Bool, true, false, not, cond}
-use Prim.Native.Nat.{ℕ, zero, suc, _+_, _*_, _/_, _%_, _^_, _-_, _≤_, _<_}
+use Prim.Native.Nat.{ℕ, zero, suc, _+_, _*_, _%_, _^_, _≤_, _<_}
 use native.Mathlib.Omega.{arith}
 use lib.IntN.{ℤ}
 use lib.Dec.{T, leb}
 use borrow.Author.Tests.{lt-ltb, le-ltb, le-leb, lt-leb}
-use lib.Ieee.{Float, nan, inf, fin, binary64, isNan, fits, ne, eq, div, ofBits, nanBits, toBits}
+use lib.Ieee.{Float, nan, inf, fin, binary64, isNan, fits, ne, div, ofBits, nanBits, toBits}
 use lib.Ieee.Compare.{differs-from-itself, nan-differs}
 use lib.Ieee.Bits.{nanBits-is, nanBits-above, toBits-lt, toBits-ofBits, ofBits-toBits}
 use Rattle.number.specs.Float64.{_⊘_, double, zero64}

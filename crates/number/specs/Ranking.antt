@@ -1,14 +1,8 @@
 -- The stable ranking of a list by an order, as insertion has it; that two rankings merged are the ranking of both lists; that a ranking is
 -- sorted and keeps every class of equals in its order. Assumes nothing.
 use mathlib.Core.Path.{_≡_, refl, sym, ap, _∙_}
-use mathlib.Core.Bool.{Bool, true, false, not, _&&_, cond, true≢false}
+use mathlib.Core.Bool.{Bool, true, false, not, true≢false}
 use mathlib.Core.List.{List, [], _∷_, _++_}
-use Prim.Native.Nat.{ℕ, suc}
-use lib.Dec.{T}
-use lib.ListN.{length}
-use lib.Ieee.{Float, binary64, fits}
-use Rattle.number.specs.Order.{ranksBefore}
-use Rattle.number.specs.OrderLaws.{below-irreflexive, below-transitive, not-below-transitive}
 
 -- a test for coming strictly before, of a total preorder
 pub record Precedes {A : Type 0} (before : A → A → Bool) : Type 0 where

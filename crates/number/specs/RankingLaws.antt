@@ -9,7 +9,7 @@ use borrow.Author.Tests.{not-true}
 use lib.Ieee.{Float, binary64, fits}
 use Rattle.number.specs.Order.{ranksBefore}
 use Rattle.number.specs.OrderLaws.{below-irreflexive, below-transitive, not-below-transitive}
-use Rattle.number.specs.Ranking.{Precedes, insert, ranking, insert-behind, insert-front}
+use Rattle.number.specs.Ranking.{Precedes, insert, ranking}
 
 module _ {A : Type 0} (before : A → A → Bool) where
   -- no element of the list comes before x

@@ -3,16 +3,15 @@
 use mathlib.Core.Path.{_≡_, refl, sym, ap, _∙_, subst}
 use mathlib.Core.Bool.{Bool, true, false, cond}
 use Prim.Native.Nat.{ℕ, zero, suc, _+_, _-_, _*_, _/_, _%_, _^_, _≤_, _<_, compare, Ordering, Ordering·lt, Ordering·eq, Ordering·gt}
-use native.Mathlib.Nat.{le-refl, le-trans, le-of-eq, le-of-lt, lt-of-le-of-lt, lt-of-lt-of-le, mul-assoc, mul-one, mul-le-mul, mul-le-mul-left, mul-le-mul-right, div-mul-le-self, le-add-right, add-zero}
+use native.Mathlib.Nat.{le-refl, le-trans, le-of-eq, le-of-lt, lt-of-le-of-lt, mul-assoc, mul-le-mul, mul-le-mul-left, mul-le-mul-right, div-mul-le-self, le-add-right, add-zero}
 use native.Mathlib.Numerals.{add-one}
 use native.Mathlib.Omega.{arith}
-use lib.Dec.{T, ltb, ltb→lt, lt→ltb}
+use lib.Dec.{T, ltb, ltb→lt}
 use lib.Pow.{pow-pos, pow-lt}
-use lib.IntN.{ℤ, pos}
+use lib.IntN.{ℤ}
 use lib.Ieee.{Float, nan, inf, fin, Format, binary64, prec, emax, low, up, down, size, nearest, odd, units, fits}
 use lib.Ieee.Fits.{odd-fits, nearest-le, kept-lt, nan-fits, inf-fits}
-use lib.Ieee.Nearest.{nearest-ge}
-use Rattle.number.specs.Root.{floorRoot, rootOfUnits, squareRoot}
+use Rattle.number.specs.Root.{floorRoot, rootOfUnits, squareRoot, rootOf}
 use Rattle.number.specs.FloorRoot.{Floor, double-square, floor-root}
 use Rattle.number.specs.RootByDigits.{Cmp, cmp, floor-of, under-next, root-by}
 
@@ -127,3 +126,24 @@ root-square n q K e lo hi = root-by n (q * q) K q e (mul-le-mul lo lo) (under (m
 -- ---- `floorRoot` is the whole part of the root
 pub floor-law : (k n : ℕ) → n < 2 ^ k * 2 ^ k → (floorRoot k n * floorRoot k n ≤ n) × (n < suc (floorRoot k n) * suc (floorRoot k n))
 floor-law k n h = floor-root k n h
+
+-- ---- what has no root, and what is its own
+pub root-of-nan : rootOf nan ≡ nan
+unfolding squareRoot
+root-of-nan = refl
+
+pub root-of-infinity : rootOf (inf false) ≡ inf false
+unfolding squareRoot
+root-of-infinity = refl
+
+pub root-of-minus-infinity : rootOf (inf true) ≡ nan
+unfolding squareRoot
+root-of-minus-infinity = refl
+
+pub root-of-zero : (s : Bool) (e : ℤ) → rootOf (fin s 0 e) ≡ fin s 0 e
+unfolding squareRoot
+root-of-zero s e = refl
+
+pub root-of-negative : (m : ℕ) (e : ℤ) → rootOf (fin true (suc m) e) ≡ nan
+unfolding squareRoot
+root-of-negative m e = refl

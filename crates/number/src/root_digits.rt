@@ -63,6 +63,7 @@ fn estimate(frac: u64, odd: u64) -> f64
 // 1 where x is below y, and 0 otherwise.
 fn is_less(x: u64, y: u64) -> u64
     ensures { λ r. ⌜ r ≡ cond (ltb x y) 1 0 ⌝ }
+    ensures { λ r. ⌜ r ≤ 1 ⌝ }
 {
     if x < y { 1 } else { 0 }
 }

@@ -12,8 +12,5 @@ float-to-bits-result c = no-nan _ (self-number _ (c .if1 .left))
 returns : tie.Need-returns
 returns c = sym (ap (toBits binary64) (differs-nan _ (c .if1 .taken)) ∙ nan-bits)
 
-returns-2 : tie.Need-returns-2
-returns-2 c = search needs
-
 pub bits-of-number-spec : {M : Type 1} → statement M
-bits-of-number-spec = tie.close (tie.spec float-to-bits-result returns returns-2)
+bits-of-number-spec = tie.close (tie.spec float-to-bits-result returns (λ c. search needs))

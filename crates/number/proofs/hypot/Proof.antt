@@ -55,5 +55,5 @@ returns-6 c =
 pub hypot-spec : {M : Type 1} → statement M
 hypot-spec =
     tie.close
-    (tie.spec (λ c κs. search needs) (λ c κs. search needs) returns returns-2 returns-3 returns-4 (λ c κs. search needs) returns-5
-    (λ c κs. search needs) returns-6)
+    (tie.spec (λ c κs. search needs) (λ c κs. search needs) returns returns-2 returns-3 returns-4 (λ c κs. search needs) returns-5 (λ c κs. search needs)
+    returns-6)

@@ -1,6 +1,6 @@
 -- `number::is_negative` meets its contract. Assumes nothing.
 use lib.Dec.{T}
-use lib.Ieee.{Float, binary64, fits}
+use lib.Ieee.{binary64, fits}
 use mathlib.Core.Path.{sym, subst}
 use Rattle.number.specs.Sign.{negative-nan}
 use Rattle.number.specs.Patterns.{differs-nan, self-number, no-nan, bits-negative}

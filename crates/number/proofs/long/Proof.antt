@@ -8,12 +8,9 @@ returns : tie.Need-returns
 unfolding longOf
 returns c = simp (c .if1 .taken)
 
-root-requires : tie.Need-root-requires
-root-requires c κs = search needs
-
 returns-2 : tie.Need-returns-2
 unfolding longOf
 returns-2 c = simp (c .before .if1 .left, c .root .ensures)
 
 pub long-spec : {M : Type 1} → statement M
-long-spec = tie.close (tie.spec returns root-requires returns-2)
+long-spec = tie.close (tie.spec returns (λ c κs. search needs) returns-2)

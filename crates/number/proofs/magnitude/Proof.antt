@@ -1,6 +1,6 @@
 -- `number::magnitude` meets its contract. Assumes nothing.
 use lib.Dec.{T}
-use lib.Ieee.{Float, binary64, fits}
+use lib.Ieee.{binary64, fits}
 use mathlib.Core.Path.{sym, subst}
 use Rattle.number.specs.Patterns.{self-number, no-nan, magnitude-nan, masked, masked-number}
 use Rattle.number.proofs.magnitude.Statement.{statement}

@@ -12,8 +12,5 @@ float-from-bits-result c = number-pattern (c .before .args .bits) (omega arith)
 returns : tie.Need-returns
 returns c = zero-by-zero ∙ sym (nan-pattern (c .before .args .bits) (omega arith))
 
-returns-2 : tie.Need-returns-2
-returns-2 c = search needs
-
 pub number-of-bits-spec : {M : Type 1} → statement M
-number-of-bits-spec = tie.close (tie.spec float-from-bits-result returns returns-2)
+number-of-bits-spec = tie.close (tie.spec float-from-bits-result returns (λ c. search needs))

@@ -1,6 +1,6 @@
 -- `number::ranks_before` meets its contract. Assumes nothing.
 use borrow.Author.Needs.{needs}
-use mathlib.Core.Path.{_≡_, refl, sym, ap, _∙_}
+use mathlib.Core.Path.{_≡_, refl, sym, _∙_}
 use mathlib.Core.Bool.{Bool, true, false, not, _&&_}
 use Rattle.number.specs.Sign.{negative}
 use Rattle.number.specs.Patterns.{differs-is-nan, self-number}

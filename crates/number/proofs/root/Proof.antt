@@ -1,14 +1,13 @@
 -- `number::root` meets its contract. Assumes nothing.
 use borrow.Author.Needs.{needs}
-use mathlib.Core.Path.{_≡_, refl, sym, ap, _∙_, subst}
-use Prim.Native.Nat.{ℕ, zero, suc, _+_, _-_, _*_, _/_, _%_, _^_, _≤_, _<_}
-use native.Mathlib.Nat.{mul-assoc, mul-comm, mul-left-comm, add-comm}
+use mathlib.Core.Path.{_≡_, sym, ap, _∙_, subst}
+use Prim.Native.Nat.{ℕ, suc, _+_, _-_, _*_, _/_, _%_, _^_, _<_}
+use native.Mathlib.Nat.{mul-assoc, add-comm}
 use native.Mathlib.Omega.{arith}
 use lib.Dec.{T}
 use lib.Pow.{pow-add}
-use lib.Ieee.{Float, binary64, fits, toBits}
+use lib.Ieee.{binary64, fits, toBits}
 use lib.Ieee.Positive.{above}
-use Rattle.number.specs.Root.{rootOfUnits, squareRoot}
 use Rattle.number.proofs.Cases.{is-above, above-no-nan, bits-small, root-top, low-pos, root-low, root-mid, root-zero, root-none}
 use Rattle.number.proofs.root.Statement.{statement}
 use Rattle.number.proofs.root.Tie as tie
@@ -46,9 +45,6 @@ subnormal-requires c κs =
     let p : 0 < toBits binary64 (t .before .args .x) = low-pos (t .before .args .x) (held (t .before)) (over t) (c .if3 .taken) in
     (p, omega arith)
 
-add-scaled : tie.Need-add-scaled
-add-scaled c = search needs
-
 add-scaled-2 : tie.Need-add-scaled-2
 add-scaled-2 c = omega (arith, small (c .before .before))
 
@@ -82,4 +78,4 @@ returns-5 : tie.Need-returns-5
 returns-5 c = root-none (c .before .before .args .x) (c .before .if1 .left) (c .if4 .left)
 
 pub root-spec : {M : Type 1} → statement M
-root-spec = tie.close (tie.spec float-to-bits-b subnormal-requires add-scaled add-scaled-2 scaled-requires returns returns-2 returns-3 returns-4 returns-5)
+root-spec = tie.close (tie.spec float-to-bits-b subnormal-requires (λ c. search needs) add-scaled-2 scaled-requires returns returns-2 returns-3 returns-4 returns-5)

@@ -1,7 +1,7 @@
 -- `number::scaled` meets its contract. Assumes nothing.
 use borrow.Author.Needs.{needs}
-use mathlib.Core.Path.{_≡_, refl, sym, ap, _∙_, subst}
-use Prim.Native.Nat.{ℕ, zero, suc, _+_, _-_, _*_, _/_, _%_, _^_, _≤_, _<_}
+use mathlib.Core.Path.{_≡_, refl, sym, ap, _∙_}
+use Prim.Native.Nat.{ℕ, zero, suc, _+_, _*_, _/_, _%_, _^_, _≤_, _<_}
 use native.Mathlib.Nat.{mul-assoc, mul-comm, mul-left-comm, mul-le-mul-left}
 use native.Mathlib.Omega.{arith}
 use lib.Pow.{pow-add}
@@ -68,23 +68,11 @@ by-halves m z = ap (λ (x : ℕ). m * 2 ^ 52 * x) (split-power z) ∙ regroup m 
 less-two : (a : ℕ) → a + 2 ≤ 2 ^ 54 → a < 2 ^ 54
 less-two a h = omega arith
 
-add-significand : tie.Need-add-significand
-add-significand c = search needs
-
 mul-significand : tie.Need-mul-significand
 mul-significand c = omega (arith, high-end (c .args .m) (c .args .z) (c .pre .0) (c .pre .1 .0))
 
-sub-significand : tie.Need-sub-significand
-sub-significand c = search needs
-
 significand-requires : tie.Need-significand-requires
 significand-requires c κs = (low-end (c .args .m) (c .args .z) (c .pre .0) (c .pre .1 .0), (high-end (c .args .m) (c .args .z) (c .pre .0) (c .pre .1 .0), (omega arith, omega arith)))
-
-mul-result : tie.Need-mul-result
-mul-result c = search needs
-
-add-result : tie.Need-add-result
-add-result c = search needs
 
 float-from-bits-result : tie.Need-float-from-bits-result
 float-from-bits-result c = no-nan-bits (c .before .args .z / 2 * 4503599627370496 + c .significand .result) (omega arith)
@@ -102,4 +90,5 @@ returns c =
     ∙ sym (root-units n (m * (1 + z % 2)) (z / 2) q (e ∙ by-halves m z) (low-end m z (p .0) (p .1 .0)) (less-two (m * (1 + z % 2)) (high-end m z (p .0) (p .1 .0))) near)
 
 pub scaled-spec : {M : Type 1} → statement M
-scaled-spec = tie.close (tie.spec add-significand mul-significand sub-significand significand-requires mul-result add-result float-from-bits-result returns)
+scaled-spec = tie.close (tie.spec (λ c. search needs) mul-significand (λ c. search needs) significand-requires (λ c. search needs) (λ c. search needs) float-from-bits-result
+    returns)

@@ -7,9 +7,6 @@ use Rattle.number.specs.Patterns.{differs-nan, self-number}
 use Rattle.number.proofs.signum.Statement.{statement}
 use Rattle.number.proofs.signum.Tie as tie
 
-is-negative-requires : tie.Need-is-negative-requires
-is-negative-requires c κs = search needs
-
 returns : tie.Need-returns
 returns c = signum-nan _ (differs-nan _ (c .if1 .taken))
 
@@ -20,4 +17,4 @@ returns-3 : tie.Need-returns-3
 returns-3 c = signum-is _ (self-number _ (c .before .before .if1 .left)) false (sym (c .before .is-negative .ensures) ∙ c .if2 .left)
 
 pub signum-spec : {M : Type 1} → statement M
-signum-spec = tie.close (tie.spec is-negative-requires returns returns-2 returns-3)
+signum-spec = tie.close (tie.spec (λ c κs. search needs) returns returns-2 returns-3)

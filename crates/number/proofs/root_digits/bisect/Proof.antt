@@ -3,7 +3,6 @@ use Prim.Native.Nat.{ℕ, _+_, _/_, _-_, _*_, _^_, _≤_, _<_}
 use native.Mathlib.Omega.{arith}
 use mathlib.Core.Path.{_≡_, sym, _∙_, subst}
 use borrow.Author.Tests.{ltb-true, ltb-false}
-use Rattle.number.specs.NearestRoot.{NearestRoot}
 use Rattle.number.proofs.Squares.{next-to}
 use Rattle.number.proofs.root_digits.bisect.Statement.{statement}
 use Rattle.number.proofs.root_digits.bisect.Tie as tie
@@ -17,17 +16,8 @@ abbrev μ-loop : tie.MeasureT-loop
 loop-holds : tie.Need-loop-holds Inv-loop μ-loop
 loop-holds c = (omega arith, omega arith, omega arith, omega arith, omega arith)
 
-sub-loop : tie.Need-sub-loop Inv-loop μ-loop
-sub-loop c = omega arith
-
-add-mid : tie.Need-add-mid Inv-loop μ-loop
-add-mid c = omega arith
-
 below-root-requires : tie.Need-below-root-requires Inv-loop μ-loop
 below-root-requires c κs = (omega arith, omega arith)
-
-loop-less : tie.Need-loop-less Inv-loop μ-loop
-loop-less c = omega arith
 
 loop-again : tie.Need-loop-again Inv-loop μ-loop
 loop-again c =
@@ -35,9 +25,6 @@ loop-again c =
     let mid = (at .loop .lo + at .loop .hi) / 2 in
     let M = at .before .args .a * 2 ^ 52 in
     (ltb-true (mid * mid) (M + mid) (sym (c .before .below-root .ensures) ∙ c .if1 .taken), at .loop .inv .1, omega arith, omega arith, at .loop .inv .4)
-
-loop-less-2 : tie.Need-loop-less-2 Inv-loop μ-loop
-loop-less-2 c = omega arith
 
 loop-again-2 : tie.Need-loop-again-2 Inv-loop μ-loop
 loop-again-2 c =
@@ -61,4 +48,5 @@ returns c =
     }
 
 pub bisect-spec : {M : Type 1} → statement M
-bisect-spec = tie.close (tie.spec Inv-loop μ-loop loop-holds sub-loop add-mid below-root-requires loop-less loop-again loop-less-2 loop-again-2 returns)
+bisect-spec = tie.close (tie.spec Inv-loop μ-loop loop-holds (λ c. omega arith) (λ c. omega arith) below-root-requires (λ c. omega arith) loop-again (λ c. omega arith)
+    loop-again-2 returns)

@@ -1,4 +1,5 @@
--- `number::less` meets its contract. Assumes nothing.
+-- `number::root_digits::is_less` meets its contract. Assumes nothing.
+use native.Mathlib.Omega.{arith}
 use mathlib.Core.Path.{sym, ap}
 use mathlib.Core.Bool.{Bool, cond}
 use Prim.Native.Nat.{ℕ}
@@ -11,11 +12,11 @@ bit b = cond b 1 0
 
 returns : tie.Need-returns
 unfolding bit
-returns c = sym (ap bit (lt-ltb (c .before .args .x) (c .before .args .y) (c .if1 .taken)))
+returns c = (sym (ap bit (lt-ltb (c .before .args .x) (c .before .args .y) (c .if1 .taken))), omega arith)
 
 returns-2 : tie.Need-returns-2
 unfolding bit
-returns-2 c = sym (ap bit (le-ltb (c .before .args .x) (c .before .args .y) (c .if1 .left)))
+returns-2 c = (sym (ap bit (le-ltb (c .before .args .x) (c .before .args .y) (c .if1 .left))), omega arith)
 
 pub is-less-spec : {M : Type 1} → statement M
 is-less-spec = tie.close (tie.spec returns returns-2)
