@@ -1,4 +1,5 @@
 pub mod Float64
+pub mod Compared
 pub mod Root
 pub mod FloorRoot
 pub mod NearestRoot

@@ -1,32 +1,17 @@
 -- `rootOfUnits` by the digits q that are nearest to the root of a * 2 ^ 52. Assumes nothing.
 use mathlib.Core.Path.{_≡_, refl, sym, ap, _∙_, subst}
-use mathlib.Core.Bool.{false, not}
+use mathlib.Core.Bool.{false}
 use Prim.Native.Nat.{ℕ, zero, suc, _+_, _-_, _*_, _/_, _%_, _^_, _≤_, _<_, compare, Ordering, Ordering·lt, Ordering·eq, Ordering·gt}
 use native.Mathlib.Nat.{le-trans, le-of-eq, le-antisymm, lt-irrefl, lt-of-lt-of-le, lt-of-le-of-lt, lt-of-not-le, not-le-of-lt, mul-assoc, mul-comm, mul-left-comm, mul-one, mul-pos, mul-le-mul, mul-le-mul-left, mul-le-mul-right, lt-of-mul-lt-mul-right, le-of-mul-le-mul-right, eq-of-mul-eq-mul-right, div-mul-le-self, div-add-mod', mod-lt, suc-mul}
 use native.Mathlib.Numerals.{add-one}
 use native.Mathlib.Omega.{arith}
-use lib.Dec.{T, isLe, isEq, eqb, leb→le, nleb→lt, eqb→eq, eqb-refl}
-use lib.Arith.{lt-of-le-ne}
 use lib.Pow.{pow-add, pow-pos, pow-mono}
 use lib.Ieee.{Float, binary64, size, nearest, units}
 use lib.Ieee.Digits.{size-lt, size-le}
+use Rattle.number.specs.Compared.{Compared, compared}
 use Rattle.number.specs.Root.{floorRoot, rootOfUnits}
 use Rattle.number.specs.NearestRoot.{NearestRoot}
 use Rattle.number.specs.FloorRoot.{Floor, suc-square, double-square, floor-root}
-
--- ---- what `compare` says
-abbrev pub Cmp : Ordering → ℕ → ℕ → Type 0
-Cmp Ordering·lt a b = a < b
-Cmp Ordering·eq a b = a ≡ b
-Cmp Ordering·gt a b = b < a
-
-pub cmp : (a b : ℕ) → Cmp (compare a b) a b
-cmp a b = go (compare a b) (leb→le a b) (nleb→lt a b) (eqb→eq a b) (λ (e : a ≡ b). subst (λ (x : ℕ). T (eqb a x)) e (eqb-refl a))
-  where
-    go : (o : Ordering) → (T (isLe o) → a ≤ b) → (T (not (isLe o)) → b < a) → (T (isEq o) → a ≡ b) → (a ≡ b → T (isEq o)) → Cmp o a b
-    go Ordering·lt h k e n = lt-of-le-ne (h tt) n
-    go Ordering·eq h k e n = e tt
-    go Ordering·gt h k e n = k tt
 
 -- ---- how many digits a number has
 pow-lt-back : (i p : ℕ) → 2 ^ i < 2 ^ p → i < p
@@ -91,7 +76,7 @@ odd-square w = subst (λ (k : ℕ). k * k ≡ 4 * (w * w) + 4 * w + 1) (sym (add
 pub product-square : (x c : ℕ) → x * c * (x * c) ≡ x * x * (c * c)
 product-square x c = simp (mul-assoc, mul-comm, mul-left-comm) refl
 
-chosen : (M w C q : ℕ) → 0 < C → Floor M w → q * q < M + q → M ≤ q * q + q → (o : Ordering) → Cmp o (4 * M * C) ((2 * w + 1) * (2 * w + 1) * C) → nearest w o ≡ q
+chosen : (M w C q : ℕ) → 0 < C → Floor M w → q * q < M + q → M ≤ q * q + q → (o : Ordering) → Compared o (4 * M * C) ((2 * w + 1) * (2 * w + 1) * C) → nearest w o ≡ q
 chosen M w C q p f lo hi Ordering·lt h = at-floor M w f q lo hi (go (w * w) ((2 * w + 1) * (2 * w + 1)) (odd-square w) (lt-of-mul-lt-mul-right C h))
   where
     go : (x y : ℕ) → y ≡ 4 * x + 4 * w + 1 → 4 * M < y → M ≤ x + w
@@ -171,7 +156,7 @@ root-by n M K q e lo hi below above =
     let is : nearest w (compare (4 * N) (t * t)) ≡ q =
     ap (λ (x : ℕ). nearest w (compare x (t * t))) left
     ∙ ap (λ (x : ℕ). nearest w (compare (4 * M * (c * c)) x)) (product-square (2 * w + 1) c)
-    ∙ chosen M w (c * c) q (mul-pos (pow-pos K) (pow-pos K)) f below above (compare (4 * M * (c * c)) ((2 * w + 1) * (2 * w + 1) * (c * c))) (cmp (4 * M * (c * c)) ((2 * w + 1) * (2 * w + 1) * (c * c))) in
+    ∙ chosen M w (c * c) q (mul-pos (pow-pos K) (pow-pos K)) f below above (compare (4 * M * (c * c)) ((2 * w + 1) * (2 * w + 1) * (c * c))) (compared (4 * M * (c * c)) ((2 * w + 1) * (2 * w + 1) * (c * c))) in
     rootOfUnits-is n ∙ ap (λ (x : ℕ). core N s x) k ∙ ap (λ (x : ℕ). units binary64 false x K) is
 
 pub root-units : (n a K q : ℕ) → n * 2 ^ 1074 ≡ a * 2 ^ 52 * (2 ^ K * 2 ^ K) → 2 ^ 52 ≤ a → a < 2 ^ 54 → NearestRoot a q → rootOfUnits binary64 n ≡ units binary64 false q K

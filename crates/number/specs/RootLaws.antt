@@ -11,9 +11,10 @@ use lib.Pow.{pow-pos, pow-lt}
 use lib.IntN.{ℤ}
 use lib.Ieee.{Float, nan, inf, fin, Format, binary64, prec, emax, low, up, down, size, nearest, odd, units, fits}
 use lib.Ieee.Fits.{odd-fits, nearest-le, kept-lt, nan-fits, inf-fits}
+use Rattle.number.specs.Compared.{Compared, compared}
 use Rattle.number.specs.Root.{floorRoot, rootOfUnits, squareRoot, rootOf}
 use Rattle.number.specs.FloorRoot.{Floor, double-square, floor-root}
-use Rattle.number.specs.RootByDigits.{Cmp, cmp, floor-of, under-next, root-by}
+use Rattle.number.specs.RootByDigits.{floor-of, under-next, root-by}
 
 -- ---- `rootOfUnits` by its parts
 abbrev core : Format → ℕ → ℕ → ℕ → Float
@@ -85,7 +86,7 @@ module _ (N s c : ℕ) (h : 0 < c) (f : Floor N s) where
       more : (x : ℕ) → 2 * suc x ≤ 2 * suc x + 1
       more x = omega arith
 
-  picked : (o : Ordering) → Cmp o (4 * N) ((2 * (s / c) + 1) * c * ((2 * (s / c) + 1) * c)) → Nearest N (nearest (s / c) o) c
+  picked : (o : Ordering) → Compared o (4 * N) ((2 * (s / c) + 1) * c * ((2 * (s / c) + 1) * c)) → Nearest N (nearest (s / c) o) c
   picked Ordering·lt x = stays (le-of-lt x)
   picked Ordering·gt x = moves (le-of-lt x)
   picked Ordering·eq x = tie (s / c % 2) (bit (s / c))
@@ -108,7 +109,7 @@ root-nearest f n =
     let k = size s - prec f in
     let t = (2 * (s / 2 ^ k) + 1) * 2 ^ k in
     let o = compare (4 * N) (t * t) in
-    (nearest (s / 2 ^ k) o, k, rootOfUnits-is f n, le-trans (nearest-le (s / 2 ^ k) o) (kept-lt (prec f) s), picked N s (2 ^ k) (pow-pos k) (floor-of N) o (cmp (4 * N) (t * t)))
+    (nearest (s / 2 ^ k) o, k, rootOfUnits-is f n, le-trans (nearest-le (s / 2 ^ k) o) (kept-lt (prec f) s), picked N s (2 ^ k) (pow-pos k) (floor-of N) o (compared (4 * N) (t * t)))
 
 -- ---- the root of a square is exact: of (q * 2 ^ K) ^ 2 units of 2 ^ -2148, with q of 53 digits, it is q * 2 ^ K units of 2 ^ -1074
 pub root-square : (n q K : ℕ) → n * 2 ^ 1074 ≡ q * q * (2 ^ K * 2 ^ K) → 2 ^ 52 ≤ q → q < 2 ^ 53 → rootOfUnits binary64 n ≡ units binary64 false q K

@@ -2,13 +2,12 @@
 -- at most 2 ^ -prec of the fraction or half a unit; nothing where the fraction is representable. Assumes nothing.
 use mathlib.Core.Path.{_≡_, refl, sym, ap, _∙_, subst}
 use mathlib.Core.Logic.{_⊎_, inl, inr}
-use mathlib.Core.Bool.{Bool, true, false, not, cond}
+use mathlib.Core.Bool.{Bool, true, false, cond}
 use Prim.Native.Nat.{ℕ, zero, suc, _+_, _-_, _*_, _/_, _%_, _^_, _≤_, _<_, compare, Ordering, Ordering·lt, Ordering·eq, Ordering·gt}
 use native.Mathlib.Nat.{le-trans, le-of-eq, mul-comm, mul-assoc, mul-le-mul-right, mul-pos, mod-lt, div-add-mod', le-div-iff-mul-le, eq-zero-or-pos, mul-mod-left, mul-div-cancel, mul-one, pow-suc}
 use native.Mathlib.Omega.{arith}
 use lib.IntN.{ℤ}
-use lib.Dec.{T, isLe, isEq, eqb, ltb, leb→le, nleb→lt, ltb→lt, eqb→eq, eqb-refl}
-use lib.Arith.{lt-of-le-ne}
+use lib.Dec.{T, ltb, ltb→lt}
 use lib.Pow.{pow-add, pow-pos, shl-lt}
 use lib.Ieee.{Float, nan, inf, fin, Format, prec, low, up, down, nearest, size, odd, units, round}
 use lib.Ieee.Digits.{size-reaches, size-le, back}
@@ -18,23 +17,11 @@ use lib.Ieee.Nearest.{closest, nearest-ge}
 use lib.Ieee.Order.{drop, kept}
 use lib.Ieee.Scale.{grid, overflow, finite}
 use Rattle.rounding.specs.Distance.{dist}
+use Rattle.number.specs.Compared.{Compared, compared}
 use Rattle.number.specs.Units.{unitsOf}
 use Rattle.rounding.specs.Units.{positivePart, negativePart}
 
 -- ---- the multiple of u nearest to n: at most u / 2 away
-abbrev Compared : Ordering → ℕ → ℕ → Type 0
-Compared Ordering·lt a b = a < b
-Compared Ordering·eq a b = a ≡ b
-Compared Ordering·gt a b = b < a
-
-compared : (a b : ℕ) → Compared (compare a b) a b
-compared a b = go (compare a b) (leb→le a b) (nleb→lt a b) (eqb→eq a b) (λ (e : a ≡ b). subst (λ (x : ℕ). T (eqb a x)) e (eqb-refl a))
-  where
-    go : (o : Ordering) → (T (isLe o) → a ≤ b) → (T (not (isLe o)) → b < a) → (T (isEq o) → a ≡ b) → (a ≡ b → T (isEq o)) → Compared o a b
-    go Ordering·lt h k e n = lt-of-le-ne (h tt) n
-    go Ordering·eq h k e n = e tt
-    go Ordering·gt h k e n = k tt
-
 tie-error : (b q r u n : ℕ) → b < 2 → q * u + r ≡ n → r * 2 ≡ u → dist ((q + b) * u) n * 2 ≤ u
 tie-error zero q r u n l e h = omega arith
 tie-error (suc zero) q r u n l e h = omega arith
