@@ -1,1 +1,2 @@
+pub mod Functionals
 pub mod Marked

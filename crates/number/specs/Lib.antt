@@ -9,6 +9,7 @@ pub mod Sign
 pub mod Patterns
 pub mod Hypot
 pub mod Power
+pub mod Identities
 pub mod Units
 pub mod Order
 pub mod OrderLaws

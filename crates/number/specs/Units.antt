@@ -16,13 +16,13 @@ unitsOf f nan = 0
 unitsOf f (inf s) = 0
 unitsOf f (fin s m e) = m * up e * 2 ^ low f / down e
 
-fewer : (k l : ℕ) → 2 ^ k ≤ 2 ^ l → k ≤ l
-fewer k l h = le-of-suc-le-suc (lt-of-not-le (λ (g : suc l ≤ k). not-le-of-lt (pow-lt g) h))
+pub exponent-le : (k l : ℕ) → 2 ^ k ≤ 2 ^ l → k ≤ l
+exponent-le k l h = le-of-suc-le-suc (lt-of-not-le (λ (g : suc l ≤ k). not-le-of-lt (pow-lt g) h))
 
 whole-down : (e : ℤ) (x l : ℕ) → down e ≤ 2 ^ l → x * 2 ^ l / down e * down e ≡ x * 2 ^ l
 whole-down (pos k) x l h = mul-one (x * 2 ^ l / 1) ∙ div-one (x * 2 ^ l)
 whole-down (negsuc k) x l h =
-    let p : 2 ^ l ≡ 2 ^ (l - suc k) * 2 ^ suc k = ap (λ (z : ℕ). 2 ^ z) (sym (sub-add-cancel (fewer (suc k) l h))) ∙ pow-add 2 (l - suc k) (suc k) in
+    let p : 2 ^ l ≡ 2 ^ (l - suc k) * 2 ^ suc k = ap (λ (z : ℕ). 2 ^ z) (sym (sub-add-cancel (exponent-le (suc k) l h))) ∙ pow-add 2 (l - suc k) (suc k) in
     let q : x * 2 ^ l ≡ x * 2 ^ (l - suc k) * 2 ^ suc k = ap (λ (z : ℕ). x * z) p ∙ sym (mul-assoc x (2 ^ (l - suc k)) (2 ^ suc k)) in
     ap (λ (z : ℕ). z / 2 ^ suc k * 2 ^ suc k) q
     ∙ ap (λ (z : ℕ). z * 2 ^ suc k) (mul-div-cancel (x * 2 ^ (l - suc k)) (pow-pos (suc k)))
