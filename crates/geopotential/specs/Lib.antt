@@ -1,2 +1,3 @@
 pub mod Functionals
+pub mod Models
 pub mod Marked

@@ -2,7 +2,7 @@
 use mathlib.Core.Path.{_≡_, refl}
 use mathlib.Core.List.{List, [], _∷_}
 use Prim.Native.Nat.{ℕ}
-use lib.Ieee.{Float, binary64, ofBits, ofInt, add, sub, mul, div, lt, eq, isNan}
+use lib.Ieee.{Float, ofBits, ofInt, add, sub, mul, div, lt, eq, isNan}
 use Rattle.number.specs.Float64.{double, one64}
 use Rattle.number.specs.Root.{rootOf, squareRoot}
 use Rattle.number.specs.Sign.{isInfinite, magnitudeOf}

@@ -1,5 +1,5 @@
 -- `functional_of` meets its contract. Assumes nothing.
-use mathlib.Core.Path.{_≡_, sym, ap}
+use mathlib.Core.Path.{sym, ap}
 use native.Mathlib.Omega.{arith}
 use Rattle.geopotential.specs.Functionals.{functionalOf, functional-other}
 use Rattle.geopotential.proofs.functionals.functional_of.Statement.{statement}

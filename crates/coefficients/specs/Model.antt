@@ -1,0 +1,40 @@
+-- Document 01's numbers of a tide system and of an answer that makes a field. Assumes nothing.
+use mathlib.Core.Path.{_≡_, ap}
+use Prim.Native.Nat.{ℕ}
+use Rattle.refusal.specs.Numbers.{answerNumber}
+use Rattle.refusal.specs.declared.Refusal.{Refusal}
+use Rattle.refusal.specs.declared.Answer.{Answer}
+use Rattle.refusal.specs.declared.Answer.the-variants.{Done}
+use Rattle.refusal.specs.declared.Answer.the-variants.{Refused as NotDone}
+use Rattle.coefficients.specs.declared.Head.{Head}
+use Rattle.coefficients.specs.declared.Model.{Model}
+use Rattle.coefficients.specs.declared.Model.the-variants.{Made, Refused}
+use Rattle.coefficients.specs.declared.TideSystem.{TideSystem}
+use Rattle.coefficients.specs.declared.TideSystem.the-variants.{TideFree, ZeroTide, MeanTide, Unknown}
+
+-- the number of a tide system in a model file
+abbrev pub tideNumber : TideSystem → ℕ
+tideNumber TideFree = 0
+tideNumber ZeroTide = 1
+tideNumber MeanTide = 2
+tideNumber Unknown = 3
+
+-- whether a field was made, or why not
+abbrev pub outcome : Model → Answer
+outcome (Made h) = Done
+outcome (Refused e) = NotDone e
+
+-- 0 where a field was made, else the number of the refusal
+abbrev pub modelNumber : Model → ℕ
+modelNumber a = answerNumber (outcome a)
+
+-- the field with the head h, where the checks are passed
+abbrev pub modelOf : Answer → Head → Model
+modelOf Done h = Made h
+modelOf (NotDone e) h = Refused e
+
+pub model-refused : {a : Answer} (e : Refusal) (h : Head) → NotDone e ≡ a → Refused e ≡ modelOf a h
+model-refused e h g = ap (λ (x : Answer). modelOf x h) g
+
+pub model-made : {a : Answer} (h : Head) → Done ≡ a → Made h ≡ modelOf a h
+model-made h g = ap (λ (x : Answer). modelOf x h) g

@@ -1,0 +1,18 @@
+-- `geopotential_degree_variances` meets its contract. Assumes nothing.
+use borrow.Author.Needs.{needs}
+use Rattle.storage.specs.Fill.{length-fill}
+use Rattle.geopotential.specs.Models.{after-length}
+use Rattle.geopotential.proofs.models.geopotential_degree_variances.Statement.{statement}
+use Rattle.geopotential.proofs.models.geopotential_degree_variances.Tie as tie
+
+same-length : tie.Need-same-length
+same-length c =
+    after-length (c .before .before .before .degree-variances .result) _ (c .before .before .before .before .before .before .before .before .args .out .now) (length-fill 0 _ _ _) (c .before .before .before .degree-variances .ensures .1)
+
+returns : tie.Need-returns
+returns c =
+    let e = c .before .before .before .degree-variances .ensures .0 in
+    (rw (← e) (c .answer-number .ensures), rw (← e) (c .before .before .before .degree-variances .ensures .1))
+
+pub geopotential-degree-variances-spec : {M : Type 1} → statement M
+geopotential-degree-variances-spec = tie.close (tie.spec (λ c κs. search needs) (λ c κs. search needs) same-length returns)
