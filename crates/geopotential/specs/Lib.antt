@@ -1,3 +1,4 @@
 pub mod Functionals
 pub mod Models
+pub mod Files
 pub mod Marked

@@ -10,6 +10,7 @@ use borrow.Author.Tests.{lt-ltb, le-ltb}
 use Rattle.refusal.specs.Numbers.{after, answerNumber}
 use Rattle.refusal.specs.declared.Answer.{Answer}
 use Rattle.refusal.specs.declared.Answer.the-variants.{Done}
+use Rattle.refusal.specs.declared.Answer.the-variants.{Refused as NotDone}
 use Rattle.storage.specs.Fill.{fill}
 use Rattle.functional.specs.declared.Functional.{Functional}
 use Rattle.coefficients.specs.declared.Head.{Head}
@@ -53,7 +54,7 @@ degree-is Done h old e = ap (λ (m : Model). degreeAfter m old) e
 degree-is (NotDone r) h old e = ap (λ (m : Model). degreeAfter m old) e
 
 -- ---- a list keeps its length
-pub after-length : (a : Answer) (made old : List Float) {now : List Float} → length made ≡ length old → now ≡ after a made old → length now ≡ length old
+pub after-length : {A : Type 0} (a : Answer) (made old : List A) {now : List A} → length made ≡ length old → now ≡ after a made old → length now ≡ length old
 after-length Done made old h e = ap length e ∙ h
 after-length (NotDone r) made old h e = ap length e
 

@@ -1,0 +1,148 @@
+-- What `read` and `write` answer, what `read` leaves in a list, and the answer on each way through the checks. Assumes nothing.
+use mathlib.Core.Path.{_≡_, refl, _∙_}
+use mathlib.Core.Bool.{not}
+use Prim.Native.Nat.{ℕ, _+_, _*_, _≤_, _<_}
+use native.Mathlib.Omega.{arith}
+use mathlib.Core.List.{List, []}
+use lib.ListN.{length}
+use lib.Dec.{ltb, eqb}
+use borrow.Author.Tests.{lt-ltb, le-ltb, eq-eqb, ne-eqb}
+use Rattle.refusal.specs.declared.Answer.{Answer}
+use Rattle.refusal.specs.declared.Answer.the-variants.{Done}
+use Rattle.refusal.specs.declared.Answer.the-variants.{Refused as Stopped}
+use Rattle.refusal.specs.declared.Refusal.{Refusal}
+use Rattle.refusal.specs.declared.Refusal.the-variants.{Size, Length, Space}
+use Rattle.refusal.specs.Numbers.{refuse}
+use Rattle.storage.specs.Answers.{sizeOf, size-is}
+use Rattle.storage.specs.Store.{store}
+use Rattle.storage.specs.Triangle.{tableSize}
+use Rattle.model_file.specs.declared.FileHead.{FileHead}
+use Rattle.model_file.specs.declared.Reading.{Reading}
+use Rattle.model_file.specs.declared.Reading.the-variants.{Model, Refused}
+use Rattle.model_file.specs.LittleEndian.{wordsAt, length-words}
+use Rattle.model_file.specs.Format.{refuseReading, headOf, bodyOf, Parsed, model, fault, parse}
+use Rattle.model_file.specs.Head.{head-small}
+use Rattle.model_file.specs.Body.{body-long}
+
+-- whether a file is accepted, or why it is refused
+abbrev pub verdictOf : Parsed → Answer
+verdictOf (model h c s) = Done
+verdictOf (fault e) = Stopped e
+
+-- what `read` answers, by what the file says and by the lengths of the lists for c and s
+abbrev pub readAnswer : Parsed → ℕ → ℕ → Reading
+readAnswer (model h c s) lc ls = refuseReading (ltb lc (length c)) Space (refuseReading (ltb ls (length s)) Space (Model h))
+readAnswer (fault e) lc ls = Refused e
+
+-- what a list holds after `read`: what the work makes of it, or, refused, what it held
+abbrev pub afterRead {ℓ} : {A : Type ℓ} → Reading → A → A → A
+afterRead (Model h) made old = made
+afterRead (Refused e) made old = old
+
+-- the numbers c and s of a file, none where it is refused
+abbrev pub cOf : Parsed → List ℕ
+cOf (model h c s) = c
+cOf (fault e) = []
+
+abbrev pub sOf : Parsed → List ℕ
+sOf (model h c s) = s
+sOf (fault e) = []
+
+-- what `write` answers, by N, the lengths of c and s, and the length of the list for the file
+unfoldable pub writeAnswer : ℕ → ℕ → ℕ → ℕ → Answer
+writeAnswer nmax lc ls lo =
+    refuse (ltb 2700 nmax) Size
+    (refuse (not (eqb lc (tableSize nmax))) Length
+    (refuse (not (eqb ls (tableSize nmax))) Length
+    (refuse (ltb lo (21 + 17 * tableSize nmax)) Space
+    Done)))
+
+-- ---- `read`, with the answers of the head's and of the records' checks as the code has them
+
+-- a file whose checks are passed, with k pairs
+pub record Readable (s : List ℕ) (h : FileHead) (k : ℕ) : Type 0 where
+  pub is : parse s ≡ model h (wordsAt s k 21) (wordsAt s k 29)
+  pub long : length s ≡ 21 + 17 * k
+
+module _ (s : List ℕ) (r : Reading) (p : r ≡ headOf s) where
+  pub refused-by-head : (e : Refusal) → r ≡ Refused e → parse s ≡ fault e
+  unfolding parse
+  refused-by-head e q = let i : headOf s ≡ Refused e = cc in rw i refl
+
+  module _ (h : FileHead) (q : r ≡ Model h) (k : ℕ) (n : k ≡ sizeOf (h .nmax)) (a : Answer) (u : a ≡ bodyOf s k 20) where
+    pairs : k ≡ tableSize (h .nmax)
+    pairs = let i : headOf s ≡ Model h = cc in n ∙ size-is (h .nmax) (head-small s h i)
+
+    pub refused-by-body : (e : Refusal) → a ≡ Stopped e → parse s ≡ fault e
+    unfolding parse
+    refused-by-body e v =
+        let i : headOf s ≡ Model h = cc in
+        let t = pairs in
+        let j : bodyOf s (tableSize (h .nmax)) 20 ≡ Stopped e = cc in
+        rw (i, j) refl
+
+    pub readable : a ≡ Done → Readable s h k
+    unfolding parse
+    readable v =
+        let i : headOf s ≡ Model h = cc in
+        let t = pairs in
+        let j : bodyOf s (tableSize (h .nmax)) 20 ≡ Done = cc in
+        let l : bodyOf s k 20 ≡ Done = cc in
+        record { is = rw (i, j, t) refl; long = omega (arith, body-long s k 20 l) }
+
+pub verdict-head : (s : List ℕ) (e : Refusal) → parse s ≡ fault e → Stopped e ≡ verdictOf (parse s)
+verdict-head s e p = rw p refl
+
+pub verdict-body : (s : List ℕ) (r : Reading) → r ≡ headOf s → (h : FileHead) → r ≡ Model h → (k : ℕ) → k ≡ sizeOf (h .nmax) → (a : Answer) → a ≡ bodyOf s k 20
+    → a ≡ verdictOf (parse s)
+verdict-body s r p h q k n Done u = let y = readable s r p h q k n Done u refl in rw (y .is) refl
+verdict-body s r p h q k n (Stopped e) u = let y = refused-by-body s r p h q k n (Stopped e) u e refl in rw y refl
+
+pub read-fault : (s : List ℕ) (lc ls : ℕ) (e : Refusal) → parse s ≡ fault e → Refused e ≡ readAnswer (parse s) lc ls
+read-fault s lc ls e p = rw p refl
+
+module _ (s : List ℕ) (h : FileHead) (k : ℕ) (y : Readable s h k) where
+  pub read-space-c : (lc ls : ℕ) → lc < k → Refused Space ≡ readAnswer (parse s) lc ls
+  unfolding refuseReading
+  read-space-c lc ls b = simp (y .is, length-words s k 21, lt-ltb lc k b)
+
+  pub read-space-s : (lc ls : ℕ) → k ≤ lc → ls < k → Refused Space ≡ readAnswer (parse s) lc ls
+  unfolding refuseReading
+  read-space-s lc ls b d = simp (y .is, length-words s k 21, length-words s k 29, le-ltb lc k b, lt-ltb ls k d)
+
+  pub read-done : (lc ls : ℕ) → k ≤ lc → k ≤ ls → Model h ≡ readAnswer (parse s) lc ls
+  unfolding refuseReading
+  read-done lc ls b d = simp (y .is, length-words s k 21, length-words s k 29, le-ltb lc k b, le-ltb ls k d)
+
+  pub read-c : (d d′ : List ℕ) → d′ ≡ store 0 (wordsAt s k 21) d → d′ ≡ store 0 (cOf (parse s)) d
+  read-c d d′ e = rw (y .is) e
+
+  pub read-s : (d d′ : List ℕ) → d′ ≡ store 0 (wordsAt s k 29) d → d′ ≡ store 0 (sOf (parse s)) d
+  read-s d d′ e = rw (y .is) e
+
+-- ---- `write`
+
+module _ (n lc ls lo : ℕ) where
+  pub write-size : 2700 < n → Stopped Size ≡ writeAnswer n lc ls lo
+  unfolding writeAnswer refuse
+  write-size h = simp (lt-ltb 2700 n h)
+
+  module _ (h : n ≤ 2700) (k : ℕ) (t : k ≡ sizeOf n) where
+    full : k ≡ tableSize n
+    full = t ∙ size-is n h
+
+    pub write-length-c : (lc ≡ k → ⊥) → Stopped Length ≡ writeAnswer n lc ls lo
+    unfolding writeAnswer refuse
+    write-length-c c = rw (← full) (simp (le-ltb 2700 n h, ne-eqb lc k c))
+
+    pub write-length-s : lc ≡ k → (ls ≡ k → ⊥) → Stopped Length ≡ writeAnswer n lc ls lo
+    unfolding writeAnswer refuse
+    write-length-s c s = rw (← full) (simp (le-ltb 2700 n h, eq-eqb lc k c, ne-eqb ls k s))
+
+    pub write-space : lc ≡ k → ls ≡ k → lo < 21 + 17 * k → Stopped Space ≡ writeAnswer n lc ls lo
+    unfolding writeAnswer refuse
+    write-space c s o = rw (← full) (simp (le-ltb 2700 n h, eq-eqb lc k c, eq-eqb ls k s, lt-ltb lo (21 + 17 * k) o))
+
+    pub write-done : lc ≡ k → ls ≡ k → 21 + 17 * k ≤ lo → Done ≡ writeAnswer n lc ls lo
+    unfolding writeAnswer refuse
+    write-done c s o = rw (← full) (simp (le-ltb 2700 n h, eq-eqb lc k c, eq-eqb ls k s, le-ltb lo (21 + 17 * k) o))

@@ -1,0 +1,4 @@
+pub mod Lists
+pub mod Variance
+pub mod Texts
+pub mod Cases

@@ -1,0 +1,59 @@
+-- Lists that a loop stores element by element, and parts of them that are lent. Assumes nothing.
+use mathlib.Core.Path.{_≡_, sym, ap, _∙_}
+use Prim.Native.Nat.{ℕ, suc, _+_, _≤_, _<_}
+use native.Mathlib.Nat.{zero-add}
+use native.Mathlib.Numerals.{add-one}
+use native.Mathlib.Omega.{arith}
+use mathlib.Core.List.{List, _++_}
+use lib.ListN.{length, getD, set, take, drop, drop-of-length-le}
+use lib.Seq.{drop-cons, take-append-seam, length-take-le}
+use Rattle.storage.specs.Elements.{from}
+use Rattle.storage.specs.Fill.{fill, length-fill, fill-same}
+use Rattle.storage.specs.Store.{store, length-store, store-none, store-cons, store-front, fill-front}
+use Rattle.storage.specs.Tabulate.{tabulate, length-tabulate, getD-tabulate}
+
+module _ {A : Type 0} (vs : List A) where
+  -- a loop that stores the elements of vs one by one: what is stored, with what is still to come
+  pub rest-turn : (d : List A) (i j j′ : ℕ) (v z : A) → i < length vs → j′ ≡ j + 1 → v ≡ getD vs i z
+      → store j′ (drop (i + 1) vs) (set d j v) ≡ store j (drop i vs) d
+  rest-turn d i j j′ v z h e p =
+      rw (e, p, add-one i)
+      (sym (store-cons j (getD vs i z) (drop (suc i) vs) d) ∙ ap (λ (l : List A). store j l d) (sym (drop-cons vs i z h)))
+
+  pub rest-end : (d : List A) (i j : ℕ) → length vs ≤ i → d ≡ store j (drop i vs) d
+  rest-end d i j h = sym (ap (λ (l : List A). store j l d) (drop-of-length-le vs h) ∙ store-none j d)
+
+  -- the part of a list that a list was stored in
+  pub take-stored : (d : List A) (t : ℕ) → length vs ≡ t → t ≤ length d → take t (store 0 vs d) ≡ vs
+  take-stored d t e h =
+      ap (λ (l : List A). take t l) (store-front vs d (omega arith))
+      ∙ ap (λ (k : ℕ). take k (vs ++ drop (length vs) d)) (sym e)
+      ∙ take-append-seam vs (drop (length vs) d)
+
+value-at : {A : Type 0} (F : ℕ → A) (k i : ℕ) (z : A) → i < k → from 0 (tabulate F 0 k) z i ≡ F i
+unfolding from
+value-at F k i z l = ap (λ (j : ℕ). getD (tabulate F 0 k) j z) (zero-add i) ∙ getD-tabulate F 0 k i z (omega arith) ∙ ap F (zero-add i)
+
+-- the part of a list that the values of a function were stored in
+pub take-filled : {A : Type 0} (F : ℕ → A) (k : ℕ) (d : List A) (z : A) → k ≤ length d → take k (fill 0 F k d) ≡ tabulate F 0 k
+take-filled {A} F k d z h =
+    let vs : List A = tabulate F 0 k in
+    let n : length vs ≡ k = length-tabulate F 0 k ∙ omega arith in
+    let same : fill 0 F k d ≡ fill 0 (from 0 vs z) k d = fill-same 0 F (from 0 vs z) k d (λ i l. sym (value-at F k i z l)) in
+    let front : fill 0 (from 0 vs z) k d ≡ vs ++ drop (length vs) d =
+    ap (λ (j : ℕ). fill 0 (from 0 vs z) j d) (sym n) ∙ fill-front vs d z (omega arith) in
+    ap (λ (l : List A). take k l) (same ∙ front) ∙ ap (λ (j : ℕ). take j (vs ++ drop (length vs) d)) (sym n) ∙ take-append-seam vs (drop (length vs) d)
+
+-- the first t elements of l, in the two forms that a lender of `&l[..t]` asks for
+pub record Lent {A : Type 0} (t : ℕ) (l : List A) : Type 0 where
+  pub within : t ≤ length l
+  pub is : t ≡ length (take t l)
+
+pub lent : {A : Type 0} (t : ℕ) (l : List A) → t ≤ length l → Lent t l
+lent t l h = record { within = h; is = sym (length-take-le t l h) }
+
+pub lent-stored : {A : Type 0} (vs l₀ l : List A) (t : ℕ) → l ≡ store 0 vs l₀ → t ≤ length l₀ → Lent t l
+lent-stored vs l₀ l t e h = lent t l (omega (arith, ap length e ∙ length-store 0 vs l₀))
+
+pub lent-filled : {A : Type 0} (F : ℕ → A) (k : ℕ) (l₀ l : List A) (t : ℕ) → l ≡ fill 0 F k l₀ → t ≤ length l₀ → Lent t l
+lent-filled F k l₀ l t e h = lent t l (omega (arith, ap length e ∙ length-fill 0 F k l₀))

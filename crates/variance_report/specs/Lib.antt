@@ -1,0 +1,3 @@
+pub mod Variance
+pub mod Report
+pub mod ReportFront
