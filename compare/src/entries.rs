@@ -1,4 +1,5 @@
-//! The C entries of the proved library (crate `geopotential`).
+//! The C entries of the proved library (crate `geopotential`). A list is a pointer and its length; an answer of the type u32 is
+//! the refusal's number, 0 where the call is done.
 
 unsafe extern "C" {
     pub safe fn geopotential_root(x: f64) -> f64;
@@ -12,4 +13,107 @@ unsafe extern "C" {
     pub safe fn geopotential_bits_of_number(x: f64) -> u64;
     /// 1 where x comes strictly before y in the falling order, else 0.
     pub safe fn geopotential_ranks_before(x: f64, y: f64) -> u32;
+
+    /// The factor of one degree; `value` is left alone on a refusal.
+    pub fn geopotential_factor(
+        functional: u32,
+        love: *const f64,
+        love_len: usize,
+        n: usize,
+        gm: f64,
+        radius: f64,
+        r: f64,
+        value: *mut f64,
+    ) -> u32;
+
+    pub fn geopotential_zeros(gm: f64, radius: f64, nmax: usize, c: *mut f64, c_len: usize, s: *mut f64, s_len: usize) -> u32;
+    pub fn geopotential_coefficient_c(nmax: usize, c: *const f64, c_len: usize, n: usize, m: usize, value: *mut f64) -> u32;
+    pub fn geopotential_coefficient_s(nmax: usize, s: *const f64, s_len: usize, n: usize, m: usize, value: *mut f64) -> u32;
+    pub fn geopotential_set(
+        nmax: usize,
+        c: *mut f64,
+        c_len: usize,
+        s: *mut f64,
+        s_len: usize,
+        n: usize,
+        m: usize,
+        cnm: f64,
+        snm: f64,
+    ) -> u32;
+    /// The degree kept goes to `degree`, which is left alone on a refusal.
+    pub fn geopotential_truncated(
+        nmax: usize,
+        c: *const f64,
+        c_len: usize,
+        s: *const f64,
+        s_len: usize,
+        cut: usize,
+        out_c: *mut f64,
+        out_c_len: usize,
+        out_s: *mut f64,
+        out_s_len: usize,
+        degree: *mut usize,
+    ) -> u32;
+    pub fn geopotential_rescaled(
+        gm: f64,
+        radius: f64,
+        nmax: usize,
+        c: *const f64,
+        c_len: usize,
+        s: *const f64,
+        s_len: usize,
+        new_gm: f64,
+        new_radius: f64,
+        out_c: *mut f64,
+        out_c_len: usize,
+        out_s: *mut f64,
+        out_s_len: usize,
+    ) -> u32;
+    pub fn geopotential_degree_variances(
+        nmax: usize,
+        c: *const f64,
+        c_len: usize,
+        s: *const f64,
+        s_len: usize,
+        out: *mut f64,
+        out_len: usize,
+    ) -> u32;
+    pub fn geopotential_degree_amplitudes(
+        gm: f64,
+        radius: f64,
+        nmax: usize,
+        c: *const f64,
+        c_len: usize,
+        s: *const f64,
+        s_len: usize,
+        functional: u32,
+        love: *const f64,
+        love_len: usize,
+        out: *mut f64,
+        out_len: usize,
+    ) -> u32;
+
+    /// Bit patterns of a model file; the four words of `head` are gm, radius, tide, N.
+    pub fn geopotential_model_read(
+        bytes: *const u8,
+        bytes_len: usize,
+        c: *mut u64,
+        c_len: usize,
+        s: *mut u64,
+        s_len: usize,
+        head: *mut u64,
+        head_len: usize,
+    ) -> u32;
+    pub fn geopotential_model_write(
+        gm: u64,
+        radius: u64,
+        tide: u32,
+        nmax: usize,
+        c: *const u64,
+        c_len: usize,
+        s: *const u64,
+        s_len: usize,
+        out: *mut u8,
+        out_len: usize,
+    ) -> u32;
 }

@@ -1,11 +1,16 @@
 //! Holds the proved library against the oracle, the published Rust with document 01's stand-ins.
 
 mod cases;
+mod coefficients;
 mod constants;
 mod entries;
+mod functional;
+mod guarded;
 mod lent;
+mod model_file;
 mod number;
 mod oracle_check;
+mod refusal;
 mod tally;
 mod timing;
 
@@ -19,7 +24,7 @@ usage: compare [--seed NUMBER] [--quick] [SUBJECT...]   same bits as the oracle,
        compare oracle                                   only check that the oracle itself works
        compare bench [SUBJECT...]                       ours, the Rust's, their ratio
        compare replay SUBJECT FILE                      write the oracle's answers as Rattle constants
-subjects: number";
+subjects: number, functional, coefficients, model_file";
 
 /// One crate of the library: what can be done with it here.
 struct Subject {
@@ -29,8 +34,17 @@ struct Subject {
     replay: fn() -> String,
 }
 
-const SUBJECTS: &[Subject] =
-    &[Subject { name: "number", compare: number::compare, bench: number::bench::bench, replay: number::replay::replay }];
+const SUBJECTS: &[Subject] = &[
+    Subject { name: "number", compare: number::compare, bench: number::bench::bench, replay: number::replay::replay },
+    Subject { name: "functional", compare: functional::compare, bench: functional::bench::bench, replay: functional::replay::replay },
+    Subject {
+        name: "coefficients",
+        compare: coefficients::compare,
+        bench: coefficients::bench::bench,
+        replay: coefficients::replay::replay,
+    },
+    Subject { name: "model_file", compare: model_file::compare, bench: model_file::bench::bench, replay: model_file::replay::replay },
+];
 
 fn subject(name: &str) -> Result<&'static Subject, String> {
     SUBJECTS.iter().find(|s| s.name == name).ok_or_else(|| format!("no subject or option {name}\n{USAGE}"))

@@ -44,6 +44,11 @@ impl Tally {
         self.count(ours == oracle, || format!("{}: ours {ours:#x}, oracle {oracle:#x}", input()));
     }
 
+    /// A call with lent lists, and the first thing that is wrong with it.
+    pub fn call(&mut self, fault: Option<String>, input: impl FnOnce() -> String) {
+        self.count(fault.is_none(), || format!("{}: {}", input(), fault.as_deref().unwrap_or_default()));
+    }
+
     /// A statement that must hold.
     pub fn holds(&mut self, statement: bool, text: &str) {
         self.count(statement, || text.to_string());

@@ -14,18 +14,29 @@ fn median(mut times: Vec<f64>) -> f64 {
     times[times.len() / 2]
 }
 
-/// Time two pieces of work of `calls` calls each, turn by turn, and print the medians.
-pub fn race<A>(name: &str, calls: usize, mut ours: impl FnMut() -> A, mut rust: impl FnMut() -> A) {
+/// The median times of two pieces of work in nanoseconds, timed turn by turn.
+fn medians<A>(mut ours: impl FnMut() -> A, mut rust: impl FnMut() -> A) -> (f64, f64) {
     let time = |work: &mut dyn FnMut() -> A| {
         let start = Instant::now();
         black_box(work());
-        start.elapsed().as_nanos() as f64 / calls as f64
+        start.elapsed().as_nanos() as f64
     };
     time(&mut ours);
     time(&mut rust);
     let (ours, rust): (Vec<f64>, Vec<f64>) = (0..ROUNDS).map(|_| (time(&mut ours), time(&mut rust))).unzip();
-    let (ours, rust) = (median(ours), median(rust));
-    println!("{name:<36}{ours:>12.2}{rust:>12.2}{:>12.2}", ours / rust);
+    (median(ours), median(rust))
+}
+
+/// Time two pieces of work of `calls` calls each and print the time of a call.
+pub fn race<A>(name: &str, calls: usize, ours: impl FnMut() -> A, rust: impl FnMut() -> A) {
+    let (ours, rust) = medians(ours, rust);
+    println!("{name:<36}{:>12.2}{:>12.2}{:>12.2}", ours / calls as f64, rust / calls as f64, ours / rust);
+}
+
+/// Time two pieces of work on so many bytes and print how many go through in a nanosecond; the ratio is that of the times.
+pub fn race_bytes<A>(name: &str, bytes: usize, ours: impl FnMut() -> A, rust: impl FnMut() -> A) {
+    let (ours, rust) = medians(ours, rust);
+    println!("{name:<36}{:>12.2}{:>12.2}{:>12.2}", bytes as f64 / ours, bytes as f64 / rust, ours / rust);
 }
 
 /// An answer as a word, so that a loop can use it.

@@ -1,18 +1,19 @@
 -- The cases that `root` tells apart: what a pattern stands for where that is above zero, and `squareRoot` of what is not above zero. Assumes nothing.
 use mathlib.Core.Path.{_≡_, refl, sym, ap, _∙_, subst}
 use mathlib.Core.Bool.{Bool, true, false, not, cond, true≢false, _&&_, _||_, Bool·beq}
-use Prim.Native.Nat.{ℕ, zero, suc, _+_, _*_, _/_, _%_, _^_, _<_}
-use native.Mathlib.Nat.{le-of-eq, lt-of-le-of-lt, lt-irrefl, mul-one, mul-pos, zero-mul, zero-lt-suc, mod-eq-of-lt}
+use Prim.Native.Nat.{ℕ, zero, suc, _+_, _*_, _/_, _%_, _^_, _≤_, _<_}
+use native.Mathlib.Nat.{le-of-eq, lt-of-le-of-lt, lt-irrefl, mul-one, mul-pos, zero-mul, zero-lt-suc, mod-eq-of-lt, mul-le-mul-left, lt-of-mul-lt-mul-right, le-of-mul-le-mul-right}
 use native.Mathlib.Omega.{arith}
 use lib.Dec.{T, leb, ltb, eqb, lt→ltb, nleb→lt}
 use lib.Pow.{pow-pos}
 use lib.Ieee.{Float, nan, inf, fin, binary64, up, down, odd, fits, isNan, ofFields, ofBits, toBits, lt, eq, div}
-use lib.Ieee.Fits.{up-pos}
+use lib.Ieee.Fits.{up-pos, down-pos}
 use lib.Ieee.Bits.{ofBits-toBits}
 use lib.Ieee.Exact.{HasValue, odd-sign}
 use lib.Ieee.Positive.{positive, above, first-pos, value-pos}
-use borrow.Author.Tests.{ltb-true, lt-ltb, eq-eqb, ne-eqb, eqb-true}
+use borrow.Author.Tests.{ltb-true, ltb-false, lt-ltb, eq-eqb, ne-eqb, eqb-true}
 use Rattle.number.specs.Root.{rootOfUnits, squareRoot}
+use Rattle.number.proofs.Squares.{same-test}
 use Rattle.number.proofs.Patterns.{root-at}
 
 yes : {b : Bool} → b ≡ true → T b
@@ -121,6 +122,34 @@ module _ (b : ℕ) (p : T (above (ofBits binary64 b))) where
       let is : ofBits binary64 b ≡ odd 53 false (2 ^ 52 + t) j 1074 = fields ∙ ap (λ (x : ℕ). ofFields binary64 false x t) e ∙ under-ones j t n in
       subst (λ (y : Float). HasValue y false ((2 ^ 52 + t) * 2 ^ j) (2 ^ 1074)) (sym is) (odd-sign 53 false (2 ^ 52 + t) j 1074)
 
+-- ---- above the largest subnormal value, 2 ^ 52 - 1 of the smallest
+pub normal-above : (x : Float) → lt (ofBits binary64 0x000f_ffff_ffff_ffff) x ≡ true → T (above x)
+unfolding lt ofBits
+normal-above nan h = absurd (true≢false (sym h))
+normal-above (inf true) h = absurd (true≢false (sym h))
+normal-above (inf false) h = tt
+normal-above (fin true n d) h = absurd (true≢false (sym h))
+normal-above (fin false n d) h =
+    lt→ltb 0 n (first-pos n (up d) (first-pos (n * up d) (2 ^ 1074) (go (4503599627370495 * down d) (n * up d * 2 ^ 1074) (ltb-true (4503599627370495 * down d) (n * up d * 2 ^ 1074) h))))
+  where
+    go : (k m : ℕ) → k < m → 0 < m
+    go k m h = omega arith
+
+normal-test : (x : Float) (A : ℕ) → HasValue x false A (2 ^ 1074) → lt (ofBits binary64 0x000f_ffff_ffff_ffff) x ≡ ltb 4503599627370495 A
+unfolding lt ofBits
+normal-test nan A h = absurd h
+normal-test (inf s) A h = absurd h
+normal-test (fin true m e) A h = absurd (true≢false (h .0))
+normal-test (fin false m e) A h =
+    same-test (4503599627370495 * down e) (m * up e * 2 ^ 1074) 4503599627370495 A
+    (λ (g : 4503599627370495 * down e < m * up e * 2 ^ 1074). lt-of-mul-lt-mul-right (down e) (subst (λ (k : ℕ). 4503599627370495 * down e < k) (h .1) g))
+    (λ (g : m * up e * 2 ^ 1074 ≤ 4503599627370495 * down e). le-of-mul-le-mul-right (subst (λ (k : ℕ). k ≤ 4503599627370495 * down e) (h .1) g) (down-pos e))
+    (ltb (4503599627370495 * down e) (m * up e * 2 ^ 1074)) refl
+
+infinite-test : lt (ofBits binary64 0x000f_ffff_ffff_ffff) (inf false) ≡ true
+unfolding lt ofBits
+infinite-test = refl
+
 infinite : inf false ≡ squareRoot binary64 (inf false)
 unfolding squareRoot
 infinite = refl
@@ -151,14 +180,39 @@ module _ (x : Float) (F : T (fits binary64 x)) (p : T (above x)) where
   pub root-low : toBits binary64 x / 2 ^ 52 ≡ 0 → squareRoot binary64 x ≡ rootOfUnits binary64 (toBits binary64 x)
   root-low e = root-at x b (value-low e) (low-pos e)
 
+  value-mid : (j : ℕ) → toBits binary64 x / 2 ^ 52 ≡ suc j → (suc j ≡ 2047 → ⊥) → HasValue x false ((2 ^ 52 + toBits binary64 x % 2 ^ 52) * 2 ^ j) (2 ^ 1074)
+  value-mid j e n = subst (λ (y : Float). HasValue y false ((2 ^ 52 + b % 2 ^ 52) * 2 ^ j) (2 ^ 1074)) same (mid-is b q j e n)
+
   pub root-mid : (j : ℕ) → toBits binary64 x / 2 ^ 52 ≡ suc j → (suc j ≡ 2047 → ⊥) → squareRoot binary64 x ≡ rootOfUnits binary64 ((2 ^ 52 + toBits binary64 x % 2 ^ 52) * 2 ^ j)
-  root-mid j e n =
-      let A = (2 ^ 52 + b % 2 ^ 52) * 2 ^ j in
-      let v : HasValue x false A (2 ^ 1074) = subst (λ (y : Float). HasValue y false A (2 ^ 1074)) same (mid-is b q j e n) in
-      root-at x A v (mul-pos (go (b % 2 ^ 52)) (pow-pos j))
+  root-mid j e n = root-at x ((2 ^ 52 + b % 2 ^ 52) * 2 ^ j) (value-mid j e n) (mul-pos (go (b % 2 ^ 52)) (pow-pos j))
     where
       go : (t : ℕ) → 0 < 2 ^ 52 + t
       go t = omega arith
+
+  pub normal-bits : lt (ofBits binary64 0x000f_ffff_ffff_ffff) x ≡ true → toBits binary64 x / 2 ^ 52 ≡ 0 → ⊥
+  normal-bits h e = go b e (ltb-true 4503599627370495 b (sym (normal-test x b (value-low e)) ∙ h))
+    where
+      go : (b : ℕ) → b / 2 ^ 52 ≡ 0 → 4503599627370495 < b → ⊥
+      go b e h = omega arith
+
+  pub subnormal-bits : lt (ofBits binary64 0x000f_ffff_ffff_ffff) x ≡ false → toBits binary64 x / 2 ^ 52 ≡ 0
+  subnormal-bits h = go (b / 2 ^ 52) refl
+    where
+      least : (t j : ℕ) → (2 ^ 52 + t) * 1 ≤ (2 ^ 52 + t) * 2 ^ j → (2 ^ 52 + t) * 2 ^ j ≤ 4503599627370495 → ⊥
+      least t j u v = omega arith
+
+      up-there : (j : ℕ) → b / 2 ^ 52 ≡ suc j → (a : Bool) → eqb (suc j) 2047 ≡ a → ⊥
+      up-there j i true k =
+          let is : x ≡ inf false = sym same ∙ top-is b q (i ∙ eqb-true (suc j) 2047 k) in
+          true≢false (sym infinite-test ∙ sym (ap (lt (ofBits binary64 0x000f_ffff_ffff_ffff)) is) ∙ h)
+      up-there j i false k =
+          let t = b % 2 ^ 52 in
+          let v = value-mid j i (λ (m : suc j ≡ 2047). true≢false (sym (eq-eqb (suc j) 2047 m) ∙ k)) in
+          least t j (mul-le-mul-left (2 ^ 52 + t) (pow-pos j)) (ltb-false 4503599627370495 ((2 ^ 52 + t) * 2 ^ j) (sym (normal-test x ((2 ^ 52 + t) * 2 ^ j) v) ∙ h))
+
+      go : (e : ℕ) → b / 2 ^ 52 ≡ e → b / 2 ^ 52 ≡ 0
+      go zero i = i
+      go (suc j) i = absurd (up-there j i (eqb (suc j) 2047) refl)
 
 -- ---- not above zero
 both : (a b : Bool) → a && b ≡ true → a ≡ true

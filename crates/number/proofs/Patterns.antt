@@ -12,7 +12,8 @@ use lib.Ieee.Fits.{down-pos, odd-fits}
 use lib.Ieee.Bits.{ofBits-toBits}
 use lib.Ieee.Exact.{HasValue, odd-sign}
 use Rattle.number.specs.Root.{rootOfUnits, squareRoot}
-use Rattle.number.specs.RootByDigits.{size-exact}
+use Rattle.number.specs.NearestRoot.{NearestRoot, ScaledRoot}
+use Rattle.number.specs.RootByDigits.{size-exact, root-units}
 
 -- ---- the bits of q * 2 ^ K smallest values
 quotient : (m : ℕ) (e : ℤ) (A : ℕ) → m * up e * 2 ^ 1074 ≡ A * down e → m * up e * 2 ^ 1074 / down e ≡ A
@@ -62,6 +63,13 @@ of-units q K lo hi k =
   where
     tidy : (a q : ℕ) → 0 + a + q ≡ a + q
     tidy a q = omega arith
+
+-- ---- the number with the digits nearest to a root is that root
+pub scaled-root : (a k q : ℕ) → 2 ^ 52 ≤ a → a + 2 ≤ 2 ^ 54 → k ≤ 2045 → NearestRoot a q → ScaledRoot a k (ofBits binary64 (k * 2 ^ 52 + q))
+scaled-root a k q lo hi h near = λ n e. of-units q k (near .least) (near .most) h ∙ sym (root-units n a k q e lo (go a hi) near)
+  where
+    go : (a : ℕ) → a + 2 ≤ 2 ^ 54 → a < 2 ^ 54
+    go a h = omega arith
 
 -- ---- `squareRoot` of a value above zero
 no-size : (e : ℤ) (A : ℕ) → 0 < A → 0 * up e * 2 ^ 1074 ≡ A * down e → ⊥

@@ -32,7 +32,7 @@ there a q s H m L e h k = omega arith
 back : (a q s H m L : ℕ) → s ≡ H * 2 ^ 52 + m * 2 ^ 26 + L → q ≤ 2 ^ 54 → a + 4 ≤ left q H m L → a * 2 ^ 52 + q ≤ s
 back a q s H m L e h k = omega arith
 
-same-test : (x y u v : ℕ) → (x < y → u < v) → (y ≤ x → v ≤ u) → (b : Bool) → ltb x y ≡ b → ltb x y ≡ ltb u v
+pub same-test : (x y u v : ℕ) → (x < y → u < v) → (y ≤ x → v ≤ u) → (b : Bool) → ltb x y ≡ b → ltb x y ≡ ltb u v
 same-test x y u v f g true e = e ∙ sym (lt-ltb u v (f (ltb-true x y e)))
 same-test x y u v f g false e = e ∙ sym (le-ltb u v (g (ltb-false x y e)))
 
@@ -69,9 +69,6 @@ next-square q = simp (mul-add, add-mul, mul-one, one-mul, add-assoc, add-comm, a
 pub next-to : (M q : ℕ) → M + (q + 1) ≤ (q + 1) * (q + 1) → M ≤ q * q + q
 next-to M q h = omega (arith, next-square q)
 
-pub next-past : (M q : ℕ) → M ≤ q * q + q → M + (q + 1) ≤ (q + 1) * (q + 1)
-next-past M q h = omega (arith, next-square q)
-
 too-large : (a q : ℕ) → a + 2 ≤ 2 ^ 54 → q ≤ 2 ^ 53 → q * q < a * 2 ^ 52 + q → 2 ^ 53 ≤ q → ⊥
 too-large a q h k l g = omega (arith, mul-le-mul g g)
 
@@ -86,39 +83,45 @@ near-of a q h k b lo hi = record {
   most = lt-of-not-le (λ (g : 2 ^ 53 ≤ q). too-large a q k b lo g);
 }
 
--- ---- what `correct` computes: what a * 2 ^ 52 has over q * q, with 12 * 2 ^ 52 added
-abbrev pub over : (a H m L : ℕ) → ℕ
-over a H m L = (a + 8 - (H + m / 67108864)) * 4503599627370496 + 18014398509481984 - (m % 67108864 * 67108864 + L)
+-- ---- what `correct` computes: what a * 2 ^ 52 has over q * q, with 2 ^ 56 added
+abbrev pub remainder : (a H m L : ℕ) → ℕ
+remainder a H m L = ((a + 8 - H) * 33554432 + 268435456 - m) * 134217728 - L
 
-over-of : (a s H m L : ℕ) → s ≡ H * 2 ^ 52 + m * 2 ^ 26 + L → H + m / 67108864 ≤ a + 8 → L ≤ 2 ^ 52 → over a H m L + s ≡ a * 2 ^ 52 + 54043195528445952
-over-of a s H m L e h k = omega arith
+remainder-of : (a s H m n L : ℕ) → s ≡ H * 2 ^ 52 + n * 2 ^ 26 + L → n ≡ 2 * m → H ≤ a + 8 → m ≤ (a + 8 - H) * 33554432 + 268435456
+    → L ≤ ((a + 8 - H) * 33554432 + 268435456 - m) * 134217728 → remainder a H m L + s ≡ a * 2 ^ 52 + 72057594037927936
+remainder-of a s H m n L e d h k l = omega arith
 
-pub over-is : (a q : ℕ) → q / 67108864 * (q / 67108864) + 2 * (q / 67108864) * (q % 67108864) / 67108864 ≤ a + 8
-    → over a (q / 67108864 * (q / 67108864)) (2 * (q / 67108864) * (q % 67108864)) (q % 67108864 * (q % 67108864)) + q * q ≡ a * 2 ^ 52 + 54043195528445952
-over-is a q h = over-of a (q * q) (q / 2 ^ 26 * (q / 2 ^ 26)) (2 * (q / 2 ^ 26) * (q % 2 ^ 26)) (q % 2 ^ 26 * (q % 2 ^ 26)) (halves q) h (L-le q)
+pub remainder-is : (a q : ℕ) → q / 67108864 * (q / 67108864) ≤ a + 8
+    → q / 67108864 * (q % 67108864) ≤ (a + 8 - q / 67108864 * (q / 67108864)) * 33554432 + 268435456
+    → q % 67108864 * (q % 67108864) ≤ ((a + 8 - q / 67108864 * (q / 67108864)) * 33554432 + 268435456 - q / 67108864 * (q % 67108864)) * 134217728
+    → remainder a (q / 67108864 * (q / 67108864)) (q / 67108864 * (q % 67108864)) (q % 67108864 * (q % 67108864)) + q * q ≡ a * 2 ^ 52 + 72057594037927936
+remainder-is a q h k l =
+    let x = q / 2 ^ 26 in
+    let y = q % 2 ^ 26 in
+    remainder-of a (q * q) (x * x) (x * y) (2 * x * y) (y * y) (halves q) (mul-assoc 2 x y) h k l
 
-module _ (a q o : ℕ) (h : 2 ^ 52 ≤ a) (k : a + 2 ≤ 2 ^ 54) (hi : q < 2 ^ 53) (e : o + q * q ≡ a * 2 ^ 52 + 54043195528445952) (top : o ≤ 54043195528445954 + 3 * q) (bottom : 54043195528445954 < o + 3 * q) where
-  corrected : (t u : Bool) → ltb (54043195528445952 + q) o ≡ t → ltb 54043195528445952 (o + q) ≡ u → NearestRoot a (q + cond t 1 0 + cond u 1 0 - 1)
+module _ (a q o : ℕ) (h : 2 ^ 52 ≤ a) (k : a + 2 ≤ 2 ^ 54) (hi : q < 2 ^ 53) (e : o + q * q ≡ a * 2 ^ 52 + 72057594037927936) (top : o ≤ 72057594037927936 + q + 2 * q) (bottom : 72057594037927938 < o + 3 * q) where
+  corrected : (t u : Bool) → ltb (72057594037927936 + q) o ≡ t → ltb 72057594037927936 (o + q) ≡ u → NearestRoot a (q + cond t 1 0 + cond u 1 0 - 1)
   corrected true true x y =
-      let g : 54043195528445952 + q < o = ltb-true (54043195528445952 + q) o x in
+      let g : 72057594037927936 + q < o = ltb-true (72057594037927936 + q) o x in
       let is : q + 1 ≡ q + 1 + 1 - 1 = omega arith in
       subst (λ (r : ℕ). NearestRoot a r) is (near-of a (q + 1) h k (omega arith) (omega (arith, next-square q)) (omega (arith, next-square q)))
   corrected false true x y =
-      let f : o ≤ 54043195528445952 + q = ltb-false (54043195528445952 + q) o x in
-      let g : 54043195528445952 < o + q = ltb-true 54043195528445952 (o + q) y in
+      let f : o ≤ 72057594037927936 + q = ltb-false (72057594037927936 + q) o x in
+      let g : 72057594037927936 < o + q = ltb-true 72057594037927936 (o + q) y in
       let is : q ≡ q + 0 + 1 - 1 = omega arith in
       subst (λ (r : ℕ). NearestRoot a r) is (near-of a q h k (omega arith) (omega arith) (omega arith))
   corrected false false x y =
-      let g : o + q ≤ 54043195528445952 = ltb-false 54043195528445952 (o + q) y in
+      let g : o + q ≤ 72057594037927936 = ltb-false 72057594037927936 (o + q) y in
       let p = q - 1 in
       let one : q ≡ p + 1 = omega arith in
       let sq : q * q ≡ p * p + p + (p + 1) = ap (λ (r : ℕ). r * r) one ∙ next-square p in
       let is : p ≡ q + 0 + 0 - 1 = omega arith in
       subst (λ (r : ℕ). NearestRoot a r) is (near-of a p h k (omega arith) (omega (arith, sq)) (omega (arith, sq)))
   corrected true false x y =
-      let f : 54043195528445952 + q < o = ltb-true (54043195528445952 + q) o x in
-      let g : o + q ≤ 54043195528445952 = ltb-false 54043195528445952 (o + q) y in
+      let f : 72057594037927936 + q < o = ltb-true (72057594037927936 + q) o x in
+      let g : o + q ≤ 72057594037927936 = ltb-false 72057594037927936 (o + q) y in
       absurd (omega arith)
 
-  pub corrected-at : NearestRoot a (q + cond (ltb (54043195528445952 + q) o) 1 0 + cond (ltb 54043195528445952 (o + q)) 1 0 - 1)
-  corrected-at = corrected (ltb (54043195528445952 + q) o) (ltb 54043195528445952 (o + q)) refl refl
+  pub corrected-at : NearestRoot a (q + cond (ltb (72057594037927936 + q) o) 1 0 + cond (ltb 72057594037927936 (o + q)) 1 0 - 1)
+  corrected-at = corrected (ltb (72057594037927936 + q) o) (ltb 72057594037927936 (o + q)) refl refl

@@ -1,25 +1,17 @@
 // What the library needs of numbers beyond the four operations: square root, hypot, sign, powers, the ranking order and bit patterns.
 // Every call is total and equal to a definition in specs/.
 mod root_digits;
+mod root_estimate;
 
 ghost use mathlib.Core.Path.{_≡_};
 ghost use Prim.Native.Nat.{ℕ, _+_, _*_, _^_, _<_, _≤_};
-ghost use lib.Ieee.{binary64, ofBits, toBits};
+ghost use mathlib.Core.Bool.{false};
+ghost use lib.Ieee.{binary64, ofBits, toBits, lt};
 ghost use Rattle.number.specs.Root.{rootOfUnits, rootOf};
 ghost use Rattle.number.specs.Sign.{negative, magnitudeOf, signumOf};
 ghost use Rattle.number.specs.Hypot.{longOf, hypotOf};
 ghost use Rattle.number.specs.Power.{powerOf, timesIfOdd, squareUnlessZero};
 ghost use Rattle.number.specs.Order.{ranksBefore};
-
-// The root of m * 2^52 * 2^z / 2^2148.
-fn scaled(m: u64, z: u64) -> f64
-    requires { ⌜ 2 ^ 52 ≤ m ⌝ ∗ ⌜ m < 2 ^ 53 ⌝ ∗ ⌜ z < 3068 ⌝ }
-    ensures { λ r. ⌜ ((n : ℕ) → n * 2 ^ 1074 ≡ m * 2 ^ 52 * 2 ^ z → r ≡ rootOfUnits binary64 n) ⌝ }
-{
-    let odd = z % 2;
-    let q = root_digits::significand(m * (1 + odd), m - 4503599627370496, odd);
-    f64::from_bits(z / 2 * 4503599627370496 + q)
-}
 
 // The root of b * 2^-1074.
 fn subnormal(b: u64) -> f64
@@ -32,27 +24,37 @@ fn subnormal(b: u64) -> f64
         m = m * 2;
         z = z - 1;
     }
-    scaled(m, z)
+    root_digits::scaled(z * 4503599627370496 + (m - 4503599627370496))
+}
+
+// The root of what is no more than the largest subnormal value, or NaN.
+fn root_below_normal(x: f64) -> f64
+    requires { ⌜ lt (ofBits binary64 0x000f_ffff_ffff_ffff) x ≡ false ⌝ }
+    ensures { λ r. ⌜ r ≡ rootOf x ⌝ }
+{
+    if x > 0.0 {
+        subnormal(f64::to_bits(x))
+    } else if x == 0.0 {
+        x
+    } else {
+        0.0 / 0.0
+    }
 }
 
 // The square root of x, rounded once.
 pub fn root(x: f64) -> f64
     ensures { λ r. ⌜ r ≡ rootOf x ⌝ }
 {
-    if x > 0.0 {
+    // above the largest subnormal value
+    if x > 2.225073858507201e-308 {
         let b = f64::to_bits(x);
-        let e = b / 4503599627370496;
-        if e == 2047 {
-            x
-        } else if e == 0 {
-            subnormal(b)
+        if b < 0x7ff0_0000_0000_0000 {
+            root_digits::scaled(b + 4598175219545276416)
         } else {
-            scaled(b % 4503599627370496 + 4503599627370496, e + 1021)
+            x
         }
-    } else if x == 0.0 {
-        x
     } else {
-        0.0 / 0.0
+        root_below_normal(x)
     }
 }
 

@@ -1,12 +1,16 @@
-// The significand of a square root: the whole number q nearest to the root of a * 2^52, for an a of 53 or 54 digits.
+// The root of a number above zero by its digits: the whole number q nearest to the root of a * 2^52, for an a of 53 or 54 digits.
 //
-// An estimate in f64 arithmetic, of which nothing is proved but its range; then an exact check of it by comparing squares, in whole
-// numbers of two digits, which also corrects it by one unit; and where that fails, which no input is known to do, a bisection.
+// An estimate, of which nothing is assumed; then an exact check of it by what a * 2^52 has over the square of q, which also corrects it
+// by one unit; and where that fails, which no input is known to do, a bisection. That is called once and last, so that it costs the usual
+// way nothing.
+use crate::root_estimate;
 ghost use mathlib.Core.Path.{_≡_};
-ghost use Prim.Native.Nat.{ℕ, _+_, _*_, _^_, _<_, _≤_};
+ghost use Prim.Native.Nat.{ℕ, _+_, _*_, _/_, _%_, _^_, _<_, _≤_};
 ghost use mathlib.Core.Bool.{cond};
 ghost use lib.Dec.{ltb};
-ghost use Rattle.number.specs.NearestRoot.{NearestRoot};
+ghost use lib.Ieee.{binary64};
+ghost use Rattle.number.specs.Root.{rootOfUnits};
+ghost use Rattle.number.specs.NearestRoot.{NearestRoot, ScaledRoot};
 
 // Whether q - 1/2 is below the root of a * 2^52. The square of q is `high` * 2^52 + `low`.
 fn below_root(a: u64, q: u64) -> bool
@@ -39,25 +43,12 @@ fn bisect(a: u64) -> u64
     lo
 }
 
-// An estimate of the root of the number with the significand 1.frac, doubled where odd is 1. It is within two units of its last digit,
-// and nothing leans on that.
-fn estimate(frac: u64, odd: u64) -> f64
-    requires { ⌜ frac < 2 ^ 52 ⌝ ∗ ⌜ odd < 2 ⌝ }
+// The root by bisection.
+fn bisected(a: u64, k: u64) -> f64
+    requires { ⌜ 2 ^ 52 ≤ a ⌝ ∗ ⌜ a + 2 ≤ 2 ^ 54 ⌝ ∗ ⌜ k ≤ 2045 ⌝ }
+    ensures { λ r. ⌜ ScaledRoot a k r ⌝ }
 {
-    let z = f64::from_bits(4607182418800017408 + frac);
-    let x = f64::from_bits(4607182418800017408 + odd * 4503599627370496 + frac);
-    let s = if odd == 0 { 1.0 } else { 0.7071067811865476 };
-    // 1 / √z by a polynomial of degree 6, within two parts in a million
-    let z2 = z * z;
-    let z4 = z2 * z2;
-    let p = ((2.4683545771705211 - 3.4708827912457323 * z)
-        + z2 * (3.6236557270505898 - 2.3780944906669207 * z))
-        + (z4 * (0.94654276435653797 - 0.20934178200833163 * z) + (z4 * z2) * 0.019764139229271002);
-    // a step of third order
-    let r = p * s;
-    let y = x * r;
-    let e = 1.0 - y * r;
-    y + (y * e) * (0.5 + 0.375 * e)
+    f64::from_bits(k * 4503599627370496 + bisect(a))
 }
 
 // 1 where x is below y, and 0 otherwise.
@@ -68,42 +59,71 @@ fn is_less(x: u64, y: u64) -> u64
     if x < y { 1 } else { 0 }
 }
 
-// The significand from an estimate q. The square of q is `high` * 2^52 + `low`, and what a * 2^52 has over it is `over` - 12 * 2^52. By
-// that q is right, or one off, which is corrected without a branch; where it is further off, by bisection.
-fn correct(a: u64, q: u64) -> u64
-    requires { ⌜ 2 ^ 52 ≤ a ⌝ ∗ ⌜ a + 2 ≤ 2 ^ 54 ⌝ ∗ ⌜ q < 2 ^ 53 ⌝ }
-    ensures { λ r. ⌜ NearestRoot a r ⌝ }
+// The root from an estimate y of it in [1, 2). With q = h * 2^26 + l for its digits, what a * 2^52 has over the square of q is
+// ((a - h^2) * 2^26 - 2 * h * l) * 2^26 - l^2, which is worked out from the left, so that it comes out with 2^56 added: `remainder`. It shows
+// whether q is right, or one off, which is corrected without a branch, or further off.
+fn correct(a: u64, k: u64, y: f64) -> f64
+    requires { ⌜ 2 ^ 52 ≤ a ⌝ ∗ ⌜ a + 2 ≤ 2 ^ 54 ⌝ ∗ ⌜ k ≤ 2045 ⌝ }
+    ensures { λ r. ⌜ ScaledRoot a k r ⌝ }
 {
-    let h = q / 67108864;
-    let l = q % 67108864;
-    let m = 2 * h * l;
-    let high = h * h + m / 67108864;
-    let low = (m % 67108864) * 67108864 + l * l;
-    if high <= a + 8 {
-        let d = a + 8 - high;
-        if d < 16 {
-            let over = d * 4503599627370496 + 18014398509481984 - low;
-            if over <= 54043195528445954 + 3 * q {
-                if 54043195528445954 < over + 3 * q {
-                    return q
-                        + is_less(54043195528445952 + q, over)
-                        + is_less(54043195528445952, over + q)
-                        - 1;
+    if y > 0.5 {
+        let q = f64::to_bits(y) % 9007199254740992;
+        let h = q / 67108864;
+        let l = q % 67108864;
+        let hh = h * h;
+        if hh <= a + 8 {
+            let d = a + 8 - hh;
+            if d < 1073741824 {
+                let e = d * 33554432 + 268435456;
+                let hl = h * l;
+                if hl <= e {
+                    let f = e - hl;
+                    if f < 1073741824 {
+                        let g = f * 134217728;
+                        let ll = l * l;
+                        if ll <= g {
+                            let remainder = g - ll;
+                            let high = 72057594037927936 + q;
+                            if remainder <= high + 2 * q {
+                                if 72057594037927938 < remainder + 3 * q {
+                                    let up = is_less(high, remainder);
+                                    let not_down = is_less(72057594037927936, remainder + q);
+                                    return f64::from_bits(
+                                        k * 4503599627370496 + (q + up + not_down - 1),
+                                    );
+                                }
+                            }
+                        }
+                    }
                 }
             }
         }
     }
-    bisect(a)
+    bisected(a, k)
 }
 
-pub fn significand(a: u64, frac: u64, odd: u64) -> u64
-    requires { ⌜ 2 ^ 52 ≤ a ⌝ ∗ ⌜ a + 2 ≤ 2 ^ 54 ⌝ ∗ ⌜ frac < 2 ^ 52 ⌝ ∗ ⌜ odd < 2 ⌝ }
-    ensures { λ r. ⌜ NearestRoot a r ⌝ }
+// For a number m of 53 digits: what is to be added to w for m, where w is m without its first digit, and for 2 * m, where w is m.
+fn addend(w: u64) -> u64
+    requires { ⌜ w < 2 ^ 53 ⌝ }
+    ensures { λ r. ⌜ w + r ≡ (2 ^ 52 + w % 2 ^ 52) * (1 + w / 2 ^ 52) ⌝ }
+    ensures { λ r. ⌜ 2 ^ 52 ≤ r ⌝ ∗ ⌜ r < 2 ^ 53 ⌝ }
 {
-    let y = estimate(frac, odd);
-    if y < 2.0 {
-        correct(a, f64::to_bits(y) % 9007199254740992)
+    if w < 4503599627370496 {
+        4503599627370496
     } else {
-        bisect(a)
+        w
     }
+}
+
+// The root of m * 2^52 * 2^z / 2^2148, where v is z * 2^52 and m without its first digit.
+pub fn scaled(v: u64) -> f64
+    requires { ⌜ v < 3068 * 2 ^ 52 ⌝ }
+    ensures { λ r. ⌜ ((n : ℕ) → n * 2 ^ 1074 ≡ (2 ^ 52 + v % 2 ^ 52) * 2 ^ 52 * 2 ^ (v / 2 ^ 52) → r ≡ rootOfUnits binary64 n) ⌝ }
+{
+    let w = v % 9007199254740992;
+    correct(
+        w + addend(w),
+        v / 9007199254740992,
+        root_estimate::estimate(w),
+    )
 }

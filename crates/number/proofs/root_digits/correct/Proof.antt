@@ -1,60 +1,68 @@
+-- `number::root_digits::correct` meets its contract. Assumes nothing.
 use borrow.Author.Needs.{needs}
 use mathlib.Core.Path.{sym, subst}
 use Prim.Native.Nat.{ℕ, _+_, _-_, _*_, _/_, _%_, _≤_, _<_, _^_}
 use mathlib.Core.Bool.{cond}
 use lib.Dec.{ltb}
+use lib.Ieee.{Float, binary64, ofBits, toBits}
 use native.Mathlib.Omega.{arith}
 use Rattle.number.specs.NearestRoot.{NearestRoot}
-use Rattle.number.proofs.Squares.{H-le, L-le, m-le, over, over-is, corrected-at}
+use Rattle.number.proofs.Squares.{H-le, L-le, m-le, remainder, remainder-is, corrected-at}
+use Rattle.number.proofs.Floats.{no-nan-bits, more-no-nan}
+use Rattle.number.proofs.Patterns.{scaled-root}
 use Rattle.number.proofs.root_digits.correct.Statement.{statement}
 use Rattle.number.proofs.root_digits.correct.Tie as tie
 
-under : (q : ℕ) → q < 2 ^ 53 → q ≤ 2 ^ 54
-under q h = omega arith
+-- the digits of the estimate, and what the last branch's arm has
+abbrev digits : Float → ℕ
+digits y = toBits binary64 y % 9007199254740992
 
-small : (c : tie.Start) → c .args .q ≤ 2 ^ 54
-small c = under (c .args .q) (c .pre .1 .1)
+abbrev gap : ℕ → ℕ → ℕ
+gap a q = remainder a (q / 67108864 * (q / 67108864)) (q / 67108864 * (q % 67108864)) (q % 67108864 * (q % 67108864))
 
--- what the last branch's arm has
-abbrev gap : tie.Start → ℕ
-gap c =
-    let q = c .args .q in
-    over (c .args .a) (q / 67108864 * (q / 67108864)) (2 * (q / 67108864) * (q % 67108864)) (q % 67108864 * (q % 67108864))
+under : (b : ℕ) → b % 9007199254740992 < 2 ^ 53
+under b = omega arith
 
-mul-m-2 : tie.Need-mul-m-2
-mul-m-2 c = omega (arith, m-le (c .args .q) (small c))
+small : (b : ℕ) → b % 9007199254740992 ≤ 2 ^ 54
+small b = omega arith
 
-mul-high : tie.Need-mul-high
-mul-high c = omega (arith, H-le (c .args .q) (small c))
+float-to-bits-q : tie.Need-float-to-bits-q
+float-to-bits-q c = more-no-nan (c .before .args .y) (ofBits binary64 0x3fe0_0000_0000_0000) (c .if1 .taken)
 
-add-high : tie.Need-add-high
-add-high c = omega (arith, m-le (c .args .q) (small c), H-le (c .args .q) (small c))
+mul-hh : tie.Need-mul-hh
+mul-hh c = omega (arith, H-le (digits (c .before .args .y)) (small (toBits binary64 (c .before .args .y))))
 
-mul-low-2 : tie.Need-mul-low-2
-mul-low-2 c = omega (arith, L-le (c .args .q))
+mul-hl : tie.Need-mul-hl
+mul-hl c = omega (arith, m-le (digits (c .before .before .before .args .y)) (small (toBits binary64 (c .before .before .before .args .y))))
 
-add-low : tie.Need-add-low
-add-low c = omega (arith, L-le (c .args .q))
+mul-ll : tie.Need-mul-ll
+mul-ll c = omega (arith, L-le (digits (c .before .before .before .before .before .args .y)))
 
-sub-over : tie.Need-sub-over
-sub-over c = omega (arith, L-le (c .before .before .args .q))
+float-from-bits-result : tie.Need-float-from-bits-result
+float-from-bits-result c =
+    let s = c .before .before .before .before .before .before .before .before .before .before in
+    no-nan-bits (s .args .k * 4503599627370496 + (digits (s .args .y) + c .before .is-less .result + c .is-less2 .result - 1)) (omega arith)
 
 returns : tie.Need-returns
 returns c =
-    let four = c .before .before in
-    let one = four .before .before .before in
-    let s = one .before in
+    let eight = c .before .before in
+    let six = eight .before .before in
+    let four = six .before .before in
+    let two = four .before .before in
+    let s = two .before .before in
     let a = s .args .a in
-    let q = s .args .q in
+    let q = digits (s .args .y) in
     let p = s .pre in
-    let near = corrected-at a q (gap s) (p .0) (p .1 .0) (p .1 .1) (over-is a q (one .if1 .taken)) (four .before .if3 .taken) (four .if4 .taken) in
-    subst (λ (r : ℕ). NearestRoot a (q + r + c .is-less2 .result - 1)) (sym (c .before .is-less .ensures .0))
-    (subst (λ (r : ℕ). NearestRoot a (q + cond (ltb (54043195528445952 + q) (gap s)) 1 0 + r - 1)) (sym (c .is-less2 .ensures .0)) near)
+    let o = gap a q in
+    let near = corrected-at a q o (p .0) (p .1 .0) (under (toBits binary64 (s .args .y))) (remainder-is a q (two .if2 .taken) (four .if4 .taken) (six .if6 .taken)) (eight .before .if7 .taken) (eight .if8 .taken) in
+    scaled-root a (s .args .k) (q + c .before .is-less .result + c .is-less2 .result - 1) (p .0) (p .1 .0) (p .1 .1)
+    (subst (λ (r : ℕ). NearestRoot a (q + r + c .is-less2 .result - 1)) (sym (c .before .is-less .ensures .0))
+    (subst (λ (r : ℕ). NearestRoot a (q + cond (ltb (72057594037927936 + q) o) 1 0 + r - 1)) (sym (c .is-less2 .ensures .0)) near))
 
 pub correct-spec : {M : Type 1} → statement M
 correct-spec =
     tie.close
-    (tie.spec (λ c. search needs) mul-m-2 mul-high add-high (λ c. search needs) mul-low-2 add-low (λ c. search needs) (λ c. search needs)
-    (λ c. search needs) (λ c. search needs) (λ c. search needs) sub-over (λ c. search needs) (λ c. search needs) (λ c. search needs) (λ c. search needs)
-    (λ c. search needs) (λ c κs. search needs) (λ c. search needs) (λ c. search needs) (λ c κs. search needs) (λ c. search needs) (λ c. search needs)
-    returns (λ c κs. search needs) (λ c. search needs))
+    (tie.spec float-to-bits-q mul-hh (λ c. search needs) (λ c. search needs) (λ c. search needs) (λ c. search needs) (λ c. search needs) mul-hl (λ c. search needs)
+    mul-ll (λ c. search needs) (λ c. search needs) (λ c. search needs) (λ c. search needs) (λ c. search needs) (λ c κs. search needs) (λ c. search needs) (λ c κs. search needs)
+    (λ c. search needs) (λ c. search needs) (λ c. search needs) (λ c. search needs) (λ c. search needs)
+    float-from-bits-result returns (λ c κs. search needs) (λ c. search needs))
