@@ -9,46 +9,34 @@ use borrow.Author.Tests.{lt-ltb, le-ltb}
 use Rattle.refusal.specs.declared.Refusal.{Refusal}
 use Rattle.refusal.specs.declared.Refusal.the-variants.{Size}
 use Rattle.storage.specs.Answers.{sizeOf, size-is}
-use Rattle.storage.specs.Fill.{fill}
 use Rattle.storage.specs.Store.{store, length-store, store-append}
 use Rattle.storage.specs.Tabulate.{tabulate, length-tabulate}
 use Rattle.storage.specs.Triangle.{tableSize}
+use Rattle.coefficients.specs.Values.{varianceOf}
 use Rattle.model_file.specs.declared.FileHead.{FileHead}
 use Rattle.model_file.specs.declared.Reading.{Reading}
 use Rattle.model_file.specs.declared.Reading.the-variants.{Model, Refused}
 use Rattle.model_file.specs.Format.{refuseReading, headOf, Parsed, model, fault, parse}
 use Rattle.model_file.specs.Answers.{readAnswer, afterRead, cOf, sOf}
 use Rattle.model_file.specs.RoundTrip.{accepted, parse-table}
-use Rattle.variance_report.specs.Variance.{numbersOf, degreeVariance}
-use Rattle.variance_report.specs.Report.{linesOf, titleText, refusedText, modelText, parsedText, reportOf, Prefix}
+use Rattle.variance_report.specs.Report.{numbersOf, linesOf, titleText, refusedText, modelText, parsedText, reportOf, Prefix}
 use Rattle.variance_report.specs.ReportFront.{pairs-most}
-use Rattle.variance_report.proofs.Lists.{take-stored, take-filled, Lent, lent-stored}
-use Rattle.variance_report.proofs.Variance.{length-numbers}
+use Rattle.variance_report.proofs.Lists.{take-stored, Lent, lent-stored}
 use Rattle.variance_report.proofs.Texts.{lines-most, length-refused, length-title}
 
 -- ---- an accepted model
-
-module _ (c s : List ℕ) (N t : ℕ) (ec : length c ≡ t) (es : length s ≡ t) where
-  -- the variances that the code has in its list
-  pub variances-are : (k : ℕ) (cs₀ cs ss₀ ss v₀ v : List Float) (z : Float) → k ≡ N + 1 → t ≤ length cs₀ → t ≤ length ss₀ → k ≤ length v₀
-      → cs ≡ store 0 (numbersOf c) cs₀ → ss ≡ store 0 (numbersOf s) ss₀ → v ≡ fill 0 (degreeVariance (take t cs) (take t ss)) (N + 1) v₀
-      → take k v ≡ tabulate (degreeVariance (numbersOf c) (numbersOf s)) 0 (N + 1)
-  variances-are k cs₀ cs ss₀ ss v₀ v z ek lc ls lv pc ps pv =
-      let x : take t cs ≡ numbersOf c = ap (λ (l : List Float). take t l) pc ∙ take-stored (numbersOf c) cs₀ t (length-numbers c ∙ ec) lc in
-      let y : take t ss ≡ numbersOf s = ap (λ (l : List Float). take t l) ps ∙ take-stored (numbersOf s) ss₀ t (length-numbers s ∙ es) ls in
-      rw (pv, ek, x, y) (take-filled (degreeVariance (numbersOf c) (numbersOf s)) (N + 1) v₀ z (omega arith))
 
 -- the title and the lines
 pub record Written (N : ℕ) (c s : List ℕ) (d : List ℕ) (r : ℕ) (d′ : List ℕ) : Type 0 where
   pub end : r ≡ length (modelText N c s)
   pub text : d′ ≡ store 0 (modelText N c s) d
 
-pub model-written : (N : ℕ) (c s : List ℕ) (vs : List Float) (d d₁ d₂ : List ℕ) (r : ℕ) → vs ≡ tabulate (degreeVariance (numbersOf c) (numbersOf s)) 0 (N + 1)
+pub model-written : (N : ℕ) (c s : List ℕ) (vs : List Float) (d d₁ d₂ : List ℕ) (r : ℕ) → vs ≡ tabulate (varianceOf (numbersOf c) (numbersOf s)) 0 (N + 1)
     → d₁ ≡ store 0 (100 ∷ 101 ∷ 103 ∷ 114 ∷ 101 ∷ 101 ∷ 32 ∷ 118 ∷ 97 ∷ 114 ∷ 105 ∷ 97 ∷ 110 ∷ 99 ∷ 101 ∷ 10 ∷ []) d
     → r ≡ 16 + length (linesOf vs 0) → d₂ ≡ store 16 (linesOf vs 0) d₁ → Written N c s d r d₂
 unfolding modelText titleText
 model-written N c s vs d d₁ d₂ r ev e₁ er e₂ =
-    let ls : List ℕ = linesOf (tabulate (degreeVariance (numbersOf c) (numbersOf s)) 0 (N + 1)) 0 in
+    let ls : List ℕ = linesOf (tabulate (varianceOf (numbersOf c) (numbersOf s)) 0 (N + 1)) 0 in
     let x = rw ev at er in
     let y = rw ev at e₂ in
     record {
@@ -59,8 +47,8 @@ model-written N c s vs d d₁ d₂ r ev e₁ er e₂ =
 pub text-most : (N : ℕ) (c s : List ℕ) → N ≤ 86 → length (modelText N c s) ≤ 1756
 unfolding modelText
 text-most N c s h =
-    let vs : List Float = tabulate (degreeVariance (numbersOf c) (numbersOf s)) 0 (N + 1) in
-    omega (arith, length-append titleText (linesOf vs 0), length-title, lines-most vs 0, length-tabulate (degreeVariance (numbersOf c) (numbersOf s)) 0 (N + 1))
+    let vs : List Float = tabulate (varianceOf (numbersOf c) (numbersOf s)) 0 (N + 1) in
+    omega (arith, length-append titleText (linesOf vs 0), length-title, lines-most vs 0, length-tabulate (varianceOf (numbersOf c) (numbersOf s)) 0 (N + 1))
 
 -- ---- what is to be shown of the answer and of the text at the end
 

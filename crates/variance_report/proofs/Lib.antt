@@ -1,4 +1,4 @@
 pub mod Lists
-pub mod Variance
+pub mod Variances
 pub mod Texts
 pub mod Cases

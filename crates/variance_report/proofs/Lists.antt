@@ -8,7 +8,7 @@ use mathlib.Core.List.{List, _++_}
 use lib.ListN.{length, getD, set, take, drop, drop-of-length-le}
 use lib.Seq.{drop-cons, take-append-seam, length-take-le}
 use Rattle.storage.specs.Elements.{from}
-use Rattle.storage.specs.Fill.{fill, length-fill, fill-same}
+use Rattle.storage.specs.Fill.{fill, fill-same}
 use Rattle.storage.specs.Store.{store, length-store, store-none, store-cons, store-front, fill-front}
 use Rattle.storage.specs.Tabulate.{tabulate, length-tabulate, getD-tabulate}
 
@@ -49,11 +49,8 @@ pub record Lent {A : Type 0} (t : ℕ) (l : List A) : Type 0 where
   pub within : t ≤ length l
   pub is : t ≡ length (take t l)
 
-pub lent : {A : Type 0} (t : ℕ) (l : List A) → t ≤ length l → Lent t l
-lent t l h = record { within = h; is = sym (length-take-le t l h) }
+pub lent : {A : Type 0} (l : List A) (n t : ℕ) → length l ≡ n → t ≤ n → Lent t l
+lent l n t e h = let w : t ≤ length l = omega arith in record { within = w; is = sym (length-take-le t l w) }
 
 pub lent-stored : {A : Type 0} (vs l₀ l : List A) (t : ℕ) → l ≡ store 0 vs l₀ → t ≤ length l₀ → Lent t l
-lent-stored vs l₀ l t e h = lent t l (omega (arith, ap length e ∙ length-store 0 vs l₀))
-
-pub lent-filled : {A : Type 0} (F : ℕ → A) (k : ℕ) (l₀ l : List A) (t : ℕ) → l ≡ fill 0 F k l₀ → t ≤ length l₀ → Lent t l
-lent-filled F k l₀ l t e h = lent t l (omega (arith, ap length e ∙ length-fill 0 F k l₀))
+lent-stored vs l₀ l t e h = lent l (length l₀) t (ap length e ∙ length-store 0 vs l₀) h

@@ -1,3 +1,2 @@
-pub mod Variance
 pub mod Report
 pub mod ReportFront

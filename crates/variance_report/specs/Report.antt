@@ -2,18 +2,22 @@
 use mathlib.Core.Path.{_≡_}
 use Prim.Native.Nat.{ℕ, zero, suc, _+_, _/_, _%_, _≤_}
 use mathlib.Core.Bool.{cond}
-use mathlib.Core.List.{List, [], _∷_, _++_}
+use mathlib.Core.List.{List, [], _∷_, _++_, map}
 use lib.ListN.{length, take}
 use lib.Dec.{ltb}
-use lib.Ieee.{Float, binary64, toBits}
+use lib.Ieee.{Float, binary64, ofBits, toBits}
 use Rattle.refusal.specs.declared.Refusal.{Refusal}
 use Rattle.refusal.specs.declared.Refusal.the-variants.{Size}
 use Rattle.refusal.specs.Numbers.{refusalNumber}
 use Rattle.storage.specs.Tabulate.{tabulate}
+use Rattle.coefficients.specs.Values.{varianceOf}
 use Rattle.model_file.specs.declared.Reading.{Reading}
 use Rattle.model_file.specs.declared.Reading.the-variants.{Model, Refused}
 use Rattle.model_file.specs.Format.{headOf, Parsed, model, fault, parse}
-use Rattle.variance_report.specs.Variance.{numbersOf, degreeVariance}
+
+-- the numbers of bit patterns
+abbrev pub numbersOf : List ℕ → List Float
+numbersOf bits = map (ofBits binary64) bits
 
 -- a hexadecimal digit: 0 to 9 from 48 on, a to f from 97 on
 unfoldable pub hexDigit : ℕ → ℕ
@@ -47,7 +51,7 @@ refusedText e = 114 ∷ 101 ∷ 102 ∷ 117 ∷ 115 ∷ 101 ∷ 100 ∷ 32 ∷ (
 
 -- the text for a model up to degree N, given by the bit patterns of its coefficients
 unfoldable pub modelText : ℕ → List ℕ → List ℕ → List ℕ
-modelText N c s = titleText ++ linesOf (tabulate (degreeVariance (numbersOf c) (numbersOf s)) 0 (N + 1)) 0
+modelText N c s = titleText ++ linesOf (tabulate (varianceOf (numbersOf c) (numbersOf s)) 0 (N + 1)) 0
 
 abbrev pub parsedText : Parsed → List ℕ
 parsedText (model h c s) = modelText (h .nmax) c s

@@ -1,14 +1,14 @@
 // What the program `variances` prints for the bytes that it has read: the degree variances of a model file of at most degree 86.
+use coefficients::Head;
+use coefficients::TideSystem;
 use model_file::Reading;
 use refusal::Refusal;
 ghost use mathlib.Core.Path.{_≡_};
 ghost use Prim.Native.Nat.{_+_, _≤_, _<_};
 ghost use lib.ListN.{length};
-ghost use Rattle.storage.specs.Fill.{fill};
 ghost use Rattle.storage.specs.Store.{store};
-ghost use Rattle.storage.specs.Triangle.{rowStart, tableSize};
-ghost use Rattle.variance_report.specs.Variance.{numbersOf, squares, degreeVariance};
-ghost use Rattle.variance_report.specs.Report.{hexDigit, hexDigits, decimalDigits, lineOf, linesOf, refusedText, modelText, reportOf, Prefix};
+ghost use Rattle.storage.specs.Triangle.{tableSize};
+ghost use Rattle.variance_report.specs.Report.{numbersOf, hexDigit, hexDigits, decimalDigits, lineOf, linesOf, refusedText, modelText, reportOf, Prefix};
 
 // The numbers of bit patterns, at the front of out.
 fn numbers_of(bits: &[u64], out: &mut [f64])
@@ -19,41 +19,6 @@ fn numbers_of(bits: &[u64], out: &mut [f64])
     while k < bits.len() {
         out[k] = number::number_of_bits(bits[k]);
         k += 1;
-    }
-}
-
-// The squares of a pair of coefficients.
-fn squares_of(c: f64, s: f64) -> f64
-    ensures { λ r. ⌜ r ≡ squares c s ⌝ }
-{
-    number::powi(c, 2) + number::powi(s, 2)
-}
-
-// The variance of degree n, whose pairs stand from `start` on.
-fn degree_variance(c: &[f64], s: &[f64], n: usize, start: usize) -> f64
-    requires { ⌜ (start ≡ rowStart n) × (n < 2701) × (start + n < length (now c)) × (start + n < length (now s)) ⌝ }
-    ensures { λ r. ⌜ r ≡ degreeVariance (now (c .entry)) (now (s .entry)) n ⌝ }
-{
-    let mut sum = 0.0;
-    let mut m = 0;
-    while m <= n {
-        sum = sum + squares_of(c[start + m], s[start + m]);
-        m += 1;
-    }
-    sum
-}
-
-// The variances of the degrees 0 to nmax, at the front of out.
-fn degree_variances(nmax: usize, c: &[f64], s: &[f64], out: &mut [f64])
-    requires { ⌜ (nmax ≤ 86) × (length (now c) ≡ tableSize nmax) × (length (now s) ≡ tableSize nmax) × (nmax < length (now out)) ⌝ }
-    ensures { λ _. ⌜ now (out .exit) ≡ fill 0 (degreeVariance (now (c .entry)) (now (s .entry))) (nmax + 1) (now (out .entry)) ⌝ }
-{
-    let mut n = 0;
-    let mut start = 0;
-    while n <= nmax {
-        out[n] = degree_variance(c, s, n, start);
-        start += n + 1;
-        n += 1;
     }
 }
 
@@ -159,7 +124,14 @@ fn write_model(out: &mut [u8], nmax: usize, c: &[u64], s: &[u64]) -> usize
     numbers_of(s, &mut ss);
     let t = c.len();
     let mut variances = [0.0; 87];
-    degree_variances(nmax, &cs[..t], &ss[..t], &mut variances);
+    // variances do not depend on GM and the radius; lists of these lengths are never refused
+    let head = Head {
+        gm: 1.0,
+        radius: 1.0,
+        tide_system: TideSystem::Unknown,
+        nmax,
+    };
+    head.degree_variances(&cs[..t], &ss[..t], &mut variances);
     write_text(out, 0, b"degree variance\n");
     let k = nmax + 1;
     write_lines(out, &variances[..k])

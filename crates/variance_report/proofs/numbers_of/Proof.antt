@@ -1,9 +1,9 @@
 use lib.ListN.{drop, length-set}
 use lib.Ieee.{binary64, ofBits}
 use Rattle.storage.specs.Store.{store}
-use Rattle.variance_report.specs.Variance.{numbersOf}
+use Rattle.variance_report.specs.Report.{numbersOf}
 use Rattle.variance_report.proofs.Lists.{rest-turn, rest-end}
-use Rattle.variance_report.proofs.Variance.{length-numbers, number-at}
+use Rattle.variance_report.proofs.Variances.{length-numbers, number-at}
 use borrow.Author.Needs.{needs}
 use native.Mathlib.Omega.{arith}
 use mathlib.Core.Path.{_≡_, refl, _∙_}

@@ -1,7 +1,8 @@
 use Rattle.variance_report.specs.ReportFront.{pairs-most}
 use lib.Ieee.{nan}
-use Rattle.variance_report.proofs.Lists.{lent-stored, lent-filled}
-use Rattle.variance_report.proofs.Cases.{variances-are, model-written}
+use Rattle.variance_report.proofs.Lists.{lent, lent-stored}
+use Rattle.variance_report.proofs.Cases.{model-written}
+use Rattle.variance_report.proofs.Variances.{variances-made, variances-are}
 use native.Mathlib.Omega.{arith}
 use mathlib.Core.Path.{refl}
 use Prim.Native.Nat.{_+_}
@@ -38,28 +39,19 @@ slice-aggregate-degree-variances-2 c =
     let a = c .before .before .before .before .before .before .before .before .before .before .before .args in
     (lent-stored _ _ _ (length (a .c .now)) (c .before .before .before .numbers-of2 .ensures) (omega (arith, pairs-most (a .nmax) (omega arith)))) .is
 
-degree-variances-requires : tie.Need-degree-variances-requires
-degree-variances-requires c κs =
-    let numbers-of = c .before .before .before .before .before .before .before .numbers-of in
-    let numbers-of2 = c .before .before .before .before .numbers-of2 in
-    let a = c .before .before .before .before .before .before .before .before .before .before .before .before .args in
-    let p = (lent-stored _ _ _ (length (a .c .now)) (numbers-of .ensures) (omega (arith, pairs-most (a .nmax) (omega arith)))) in
-    let q = (lent-stored _ _ _ (length (a .c .now)) (numbers-of2 .ensures) (omega (arith, pairs-most (a .nmax) (omega arith)))) in
-    (omega arith, omega arith, omega arith, omega arith)
-
 array-share-prefix-variances : tie.Need-array-share-prefix-variances
 array-share-prefix-variances c =
     let c1 = c .before .before .before .before .before .before .before .before .before .before in
     let c2 = c1 .before .before .before .before .before .before .before .before .before .before in
     let degree-variances = c .before .before .before .before .before .before .before .degree-variances in
-    (lent-filled _ _ _ _ (c2 .args .nmax + 1) (degree-variances .ensures) (omega arith)) .within
+    (lent (degree-variances .last .1 .1 .1 .0) 87 (c2 .args .nmax + 1) (degree-variances .kept .1 .1 .1 .0) (omega arith)) .within
 
 slice-aggregate-write-lines : tie.Need-slice-aggregate-write-lines
 slice-aggregate-write-lines c =
     let c1 = c .before .before .before .before .before .before .before .before .before .before in
     let c2 = c1 .before .before .before .before .before .before .before .before .before .before in
     let degree-variances = c .before .before .before .before .before .before .before .before .degree-variances in
-    (lent-filled _ _ _ _ (c2 .before .args .nmax + 1) (degree-variances .ensures) (omega arith)) .is
+    (lent (degree-variances .last .1 .1 .1 .0) 87 (c2 .before .args .nmax + 1) (degree-variances .kept .1 .1 .1 .0) (omega arith)) .is
 
 write-lines-requires : tie.Need-write-lines-requires
 write-lines-requires c κs =
@@ -67,7 +59,7 @@ write-lines-requires c κs =
     let c2 = c1 .before .before .before .before .before .before .before .before .before .before in
     let degree-variances = c .before .before .before .before .before .before .before .before .degree-variances in
     let write-text = c .before .before .before .before .write-text in
-    let p = (lent-filled _ _ _ _ (c2 .before .args .nmax + 1) (degree-variances .ensures) (omega arith)) in
+    let p = lent (degree-variances .last .1 .1 .1 .0) 87 (c2 .before .args .nmax + 1) (degree-variances .kept .1 .1 .1 .0) (omega arith) in
     (omega arith, omega (arith, write-text .kept .0))
 
 returns : tie.Need-returns
@@ -81,8 +73,12 @@ returns c =
     let a = c2 .before .before .before .before .args in
     let write-lines = c .before .before .write-lines in
     let most = pairs-most (a .nmax) (omega arith) in
+    let p = lent-stored _ _ _ (length (a .c .now)) (numbers-of .ensures) (omega arith) in
+    let q = lent-stored _ _ _ (length (a .c .now)) (numbers-of2 .ensures) (omega arith) in
+    let made = variances-made _ (a .nmax) _ _ _ (omega arith) (omega arith) (omega arith) (omega arith) (degree-variances .ensures .0)
+    (degree-variances .ensures .1) in
     let vs = variances-are (a .c .now) (a .s .now) (a .nmax) _ refl (omega arith) _ _ _ _ _ _ _ nan refl (omega arith) (omega arith) (omega arith)
-    (numbers-of .ensures) (numbers-of2 .ensures) (degree-variances .ensures) in
+    (numbers-of .ensures) (numbers-of2 .ensures) made in
     let w = model-written (a .nmax) (a .c .now) (a .s .now) _ _ _ _ _ vs (write-text .ensures .1) (write-lines .ensures .0) (write-lines .ensures .1) in
     (w .end, w .text)
 
@@ -90,5 +86,5 @@ pub write-model-spec : {M : Type 1} → statement M
 write-model-spec =
     tie.close
     (tie.spec (λ c. search needs) numbers-of-requires (λ c. search needs) numbers-of-requires-2 array-share-prefix-cs slice-aggregate-degree-variances
-    array-share-prefix-ss slice-aggregate-degree-variances-2 (λ c. search needs) degree-variances-requires (λ c. search needs) (λ c κs. search needs)
+    array-share-prefix-ss slice-aggregate-degree-variances-2 (λ c. search needs) (λ c κs. search needs) (λ c. search needs) (λ c κs. search needs)
     (λ c. search needs) array-share-prefix-variances slice-aggregate-write-lines write-lines-requires (λ c. search needs) returns)

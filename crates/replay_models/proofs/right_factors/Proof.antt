@@ -1,0 +1,21 @@
+use borrow.Author.Needs.{needs}
+use native.Mathlib.Omega.{arith}
+use Prim.Native.Nat.{_-_, _≤_}
+use lib.ListN.{length}
+use Rattle.replay_models.proofs.right_factors.Statement.{statement}
+use Rattle.replay_models.proofs.right_factors.Tie as tie
+
+abbrev Inv-loop : tie.InvT-loop
+Inv-loop k rows right₀ i₀ right i = right ≤ i
+
+abbrev μ-loop : tie.MeasureT-loop
+μ-loop k rows right₀ i₀ right i = length rows - i
+
+pub right-factors-spec : {M : Type 1} → statement M
+right-factors-spec =
+    tie.close
+    (tie.spec Inv-loop μ-loop (λ c. omega arith) (λ c. omega arith) (λ c. omega arith) (λ c. omega arith) (λ c. omega arith) (λ c. omega arith)
+    (λ c. omega arith) (λ c. omega arith) (λ c. omega arith) (λ c. omega arith) (λ c. omega arith) (λ c. omega arith) (λ c. omega arith)
+    (λ c. omega arith) (λ c. omega arith) (λ c. omega arith) (λ c κs. search needs) (λ c. omega arith) (λ c. omega arith) (λ c. omega arith)
+    (λ c. omega arith) (λ c κs. search needs) (λ c. omega arith) (λ c. omega arith) (λ c. omega arith) (λ c. omega arith) (λ c. search needs)
+    (λ c. search needs))
