@@ -2,7 +2,8 @@
 //
 // 1 / √x is followed by parabolas a - b * x + c * x^2 on 32 pieces, 16 of equal width on [1, 2) and 16 on [2, 4). Each is the one of
 // least relative error on its piece (Remez' exchange), rounded to nine decimals; the error is at most 2.2 parts in a million. The three
-// coefficients are functions of the piece's number, each a `match` that the compiler turns into a table of constants.
+// coefficients are functions of the piece's number, each a `match` that the compiler turns into a table of constants; compare/root_table.py
+// makes them again.
 ghost use Prim.Native.Nat.{_^_, _<_};
 
 // a
