@@ -26,6 +26,41 @@ fn degree_sum(at: usize, n: usize, c: &[f64], s: &[f64]) -> f64
     sum
 }
 
+// The sums of two rows that follow each other.
+struct RowSums {
+    first: f64,
+    second: f64,
+}
+
+// The sums of the squares of rows n and n + 1, where row n starts at index `at`. Each sum is a chain of additions that wait for each
+// other; two chains side by side take the time of one.
+fn two_degree_sums(at: usize, n: usize, c: &[f64], s: &[f64]) -> RowSums
+    requires { ⌜ at + n + n + 2 < length (now c) ⌝ ∗ ⌜ at + n + n + 2 < length (now s) ⌝ }
+    ensures { λ x. ⌜ x .first ≡ foldLeft _⊕_ (squaresFrom at (now (c .entry)) (now (s .entry))) zero64 (n + 1) ⌝
+        ∗ ⌜ x .second ≡ foldLeft _⊕_ (squaresFrom (at + n + 1) (now (c .entry)) (now (s .entry))) zero64 (n + 1 + 1) ⌝ }
+{
+    let count = n + 1;
+    let next = at + n + 1;
+    let mut first = 0.0;
+    let mut second = 0.0;
+    let mut order = 0;
+    while order < count {
+        let cn = c[at + order];
+        let sn = s[at + order];
+        let cnext = c[next + order];
+        let snext = s[next + order];
+        first = first + (cn * cn + sn * sn);
+        second = second + (cnext * cnext + snext * snext);
+        order = order + 1;
+    }
+    let clast = c[next + count];
+    let slast = s[next + count];
+    RowSums {
+        first: first,
+        second: second + (clast * clast + slast * slast),
+    }
+}
+
 // The variance of each degree up to nmax.
 pub fn variances(nmax: usize, c: &[f64], s: &[f64], out: &mut [f64])
     requires { ⌜ nmax ≤ 2700 ⌝ ∗ ⌜ tableSize nmax ≤ length (now c) ⌝ ∗ ⌜ tableSize nmax ≤ length (now s) ⌝
@@ -34,10 +69,15 @@ pub fn variances(nmax: usize, c: &[f64], s: &[f64], out: &mut [f64])
 {
     let mut at = 0;
     let mut n = 0;
-    while n <= nmax {
+    while n < nmax {
+        let sums = two_degree_sums(at, n, c, s);
+        out[n] = sums.first;
+        out[n + 1] = sums.second;
+        at = at + (2 * n + 3);
+        n = n + 2;
+    }
+    if n <= nmax {
         out[n] = degree_sum(at, n, c, s);
-        at = at + n + 1;
-        n = n + 1;
     }
 }
 
@@ -73,12 +113,10 @@ pub fn amplitudes(
     ensures { λ r. ⌜ Filled 0 (amplitudeOf functional (now (love .entry)) gm radius (now (c .entry)) (now (s .entry))) (nmax + 1)
         (now (out .entry)) (now (out .exit)) ⌝ }
 {
-    let mut at = 0;
+    variances(nmax, c, s, out);
     let mut n = 0;
     while n <= nmax {
-        let variance = degree_sum(at, n, c, s);
-        out[n] = amplitude(functional, love, gm, radius, n, variance);
-        at = at + n + 1;
+        out[n] = amplitude(functional, love, gm, radius, n, out[n]);
         n = n + 1;
     }
 }
