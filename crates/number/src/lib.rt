@@ -151,10 +151,12 @@ pub fn hypot(x: f64, y: f64) -> f64
     long(a, b)
 }
 
+// r times b where e is odd, else r times 1, which is r: by an index, since a branch on the bits of an exponent is guessed wrong half the time.
 fn times_if_odd(e: usize, r: f64, b: f64) -> f64
     ensures { λ x. ⌜ x ≡ timesIfOdd e r b ⌝ }
 {
-    if e % 2 == 1 { r * b } else { r }
+    let factors = [1.0, b];
+    r * factors[e % 2]
 }
 
 fn square_unless_zero(e: usize, b: f64) -> f64
