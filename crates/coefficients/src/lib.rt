@@ -18,7 +18,8 @@ ghost use Rattle.storage.specs.Elements.{from};
 ghost use Rattle.storage.specs.Fill.{fill};
 ghost use Rattle.storage.specs.Triangle.{idx, tableSize, along};
 ghost use Rattle.coefficients.specs.Model.{tideNumber, outcome, modelNumber, modelOf};
-ghost use Rattle.coefficients.specs.Checks.{tablesCheck, zerosCheck, entryAnswer, setCheck, outputsCheck, variancesCheck, amplitudesCheck};
+ghost use Rattle.storage.specs.Checks.{roomCheck, entryAnswer, outputsCheck};
+ghost use Rattle.coefficients.specs.Checks.{setCheck, variancesCheck, amplitudesCheck};
 ghost use Rattle.coefficients.specs.Values.{zeroAt, zeroHead, cutHead, rescaledHead, rescaledEntry, varianceOf, amplitudeOf};
 
 // How the permanent tide is treated in C(2,0).
@@ -73,44 +74,6 @@ pub fn model_number(a: Model) -> u32
     }
 }
 
-// ---- the checks, over the lengths of the lists
-// SIZE, and LENGTH of the two tables.
-fn tables_check(nmax: usize, clen: usize, slen: usize) -> Answer
-    ensures { λ r. ⌜ r ≡ tablesCheck nmax clen slen ⌝ }
-{
-    if nmax > storage::MAX_DEGREE {
-        return Answer::Refused(Refusal::Size);
-    }
-    let size = storage::table_size(nmax);
-    if clen != size {
-        return Answer::Refused(Refusal::Length);
-    }
-    if slen != size {
-        return Answer::Refused(Refusal::Length);
-    }
-    Answer::Done
-}
-
-// The same, and SPACE for two tables up to degree top.
-fn outputs_check(nmax: usize, clen: usize, slen: usize, top: usize, a: usize, b: usize) -> Answer
-    requires { ⌜ top ≤ nmax ⌝ }
-    ensures { λ r. ⌜ r ≡ outputsCheck nmax clen slen top a b ⌝ }
-{
-    match tables_check(nmax, clen, slen) {
-        Answer::Refused(e) => Answer::Refused(e),
-        Answer::Done => {
-            let size = storage::table_size(top);
-            if a < size {
-                return Answer::Refused(Refusal::Space);
-            }
-            if b < size {
-                return Answer::Refused(Refusal::Space);
-            }
-            Answer::Done
-        }
-    }
-}
-
 // The smaller of two degrees.
 fn smaller(a: usize, b: usize) -> usize
     ensures { λ r. ⌜ r ≡ min a b ⌝ }
@@ -118,26 +81,10 @@ fn smaller(a: usize, b: usize) -> usize
     if a < b { a } else { b }
 }
 
-// The entry of degree n and order m of a table up to degree nmax.
-fn entry(nmax: usize, table: &[f64], n: usize, m: usize) -> Number
-    ensures { λ r. ⌜ r ≡ entryAnswer nmax (now (table .entry)) n m ⌝ }
-{
-    if nmax > storage::MAX_DEGREE {
-        return Number::Refused(Refusal::Size);
-    }
-    if table.len() != storage::table_size(nmax) {
-        return Number::Refused(Refusal::Length);
-    }
-    match storage::place(nmax, n, m) {
-        Index::Refused(e) => Number::Refused(e),
-        Index::At(k) => Number::Value(table[k]),
-    }
-}
-
 impl Head {
     // All-zero coefficients up to degree nmax, with the tide system unknown.
     pub fn zeros(gm: f64, radius: f64, nmax: usize, c: &mut [f64], s: &mut [f64]) -> Model
-        ensures { λ r. ⌜ r ≡ modelOf (zerosCheck nmax (length (now (c .entry))) (length (now (s .entry)))) (zeroHead gm radius nmax) ⌝ }
+        ensures { λ r. ⌜ r ≡ modelOf (roomCheck nmax (length (now (c .entry))) (length (now (s .entry)))) (zeroHead gm radius nmax) ⌝ }
         ensures { λ r. ⌜ now (c .exit) ≡ after (outcome r) (fill 0 zeroAt (tableSize nmax) (now (c .entry))) (now (c .entry)) ⌝ }
         ensures { λ r. ⌜ now (s .exit) ≡ after (outcome r) (fill 0 zeroAt (tableSize nmax) (now (s .entry))) (now (s .entry)) ⌝ }
     {
@@ -165,14 +112,14 @@ impl Head {
     pub fn c(self, c: &[f64], n: usize, m: usize) -> Number
         ensures { λ r. ⌜ r ≡ entryAnswer (self .nmax) (now (c .entry)) n m ⌝ }
     {
-        entry(self.nmax, c, n, m)
+        storage::entry(self.nmax, c, n, m)
     }
 
     // S(n,m).
     pub fn s(self, s: &[f64], n: usize, m: usize) -> Number
         ensures { λ r. ⌜ r ≡ entryAnswer (self .nmax) (now (s .entry)) n m ⌝ }
     {
-        entry(self.nmax, s, n, m)
+        storage::entry(self.nmax, s, n, m)
     }
 
     // Sets C(n,m) to cnm and S(n,m) to snm.
@@ -182,7 +129,7 @@ impl Head {
         ensures { λ r. ⌜ now (s .exit) ≡ after r (set (now (s .entry)) (idx n m) snm) (now (s .entry)) ⌝ }
     {
         let nmax = self.nmax;
-        match tables_check(nmax, c.len(), s.len()) {
+        match storage::tables_check(nmax, c.len(), s.len()) {
             Answer::Refused(e) => Answer::Refused(e),
             Answer::Done => match storage::place(nmax, n, m) {
                 Index::Refused(e) => Answer::Refused(e),
@@ -218,7 +165,7 @@ impl Head {
         let nmax = self.nmax;
         let tide = self.tide_system;
         let top = smaller(cut, nmax);
-        match outputs_check(nmax, c.len(), s.len(), top, outc.len(), outs.len()) {
+        match storage::outputs_check(nmax, c.len(), s.len(), top, outc.len(), outs.len()) {
             Answer::Refused(e) => Model::Refused(e),
             Answer::Done => {
                 let size = storage::table_size(top);
@@ -257,7 +204,7 @@ impl Head {
     {
         let nmax = self.nmax;
         let tide = self.tide_system;
-        match outputs_check(nmax, c.len(), s.len(), nmax, outc.len(), outs.len()) {
+        match storage::outputs_check(nmax, c.len(), s.len(), nmax, outc.len(), outs.len()) {
             Answer::Refused(e) => Model::Refused(e),
             Answer::Done => {
                 tables::rescale(nmax, self.gm / gm, self.radius / radius, c, s, outc, outs);
@@ -279,7 +226,7 @@ impl Head {
             (now (out .entry)) ⌝ }
     {
         let nmax = self.nmax;
-        match tables_check(nmax, c.len(), s.len()) {
+        match storage::tables_check(nmax, c.len(), s.len()) {
             Answer::Refused(e) => Answer::Refused(e),
             Answer::Done => {
                 if out.len() <= nmax {
@@ -308,7 +255,7 @@ impl Head {
             (now (out .entry)) ⌝ }
     {
         let nmax = self.nmax;
-        match tables_check(nmax, c.len(), s.len()) {
+        match storage::tables_check(nmax, c.len(), s.len()) {
             Answer::Refused(e) => Answer::Refused(e),
             Answer::Done => {
                 if functional.lacks_love(love.len(), nmax) {

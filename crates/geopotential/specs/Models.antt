@@ -17,7 +17,8 @@ use Rattle.coefficients.specs.declared.Head.{Head}
 use Rattle.coefficients.specs.declared.Model.{Model}
 use Rattle.coefficients.specs.declared.Model.the-variants.{Made, Refused}
 use Rattle.coefficients.specs.Model.{outcome, modelOf}
-use Rattle.coefficients.specs.Checks.{outputsCheck, amplitudesCheck}
+use Rattle.storage.specs.Checks.{outputsCheck}
+use Rattle.coefficients.specs.Checks.{amplitudesCheck}
 use Rattle.coefficients.specs.Values.{amplitudeOf}
 use Rattle.geopotential.specs.Functionals.{functionalOf}
 

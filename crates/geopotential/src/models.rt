@@ -12,7 +12,8 @@ ghost use Rattle.storage.specs.Elements.{from};
 ghost use Rattle.storage.specs.Fill.{fill};
 ghost use Rattle.storage.specs.Triangle.{idx, tableSize, along};
 ghost use Rattle.coefficients.specs.Model.{modelNumber};
-ghost use Rattle.coefficients.specs.Checks.{zerosCheck, entryAnswer, setCheck, variancesCheck};
+ghost use Rattle.storage.specs.Checks.{roomCheck, entryAnswer};
+ghost use Rattle.coefficients.specs.Checks.{setCheck, variancesCheck};
 ghost use Rattle.coefficients.specs.Values.{zeroAt, rescaledEntry, varianceOf};
 ghost use Rattle.geopotential.specs.Models.{degreeAfter, cutCheck, sameCheck, amplitudesNumber, amplitudesAfter};
 
@@ -24,9 +25,9 @@ pub extern "C" fn geopotential_zeros(
     c: &mut [f64],
     s: &mut [f64],
 ) -> u32
-    ensures { λ r. ⌜ r ≡ answerNumber (zerosCheck nmax (length (now (c .entry))) (length (now (s .entry)))) ⌝ }
-    ensures { λ r. ⌜ now (c .exit) ≡ after (zerosCheck nmax (length (now (c .entry))) (length (now (s .entry)))) (fill 0 zeroAt (tableSize nmax) (now (c .entry))) (now (c .entry)) ⌝ }
-    ensures { λ r. ⌜ now (s .exit) ≡ after (zerosCheck nmax (length (now (c .entry))) (length (now (s .entry)))) (fill 0 zeroAt (tableSize nmax) (now (s .entry))) (now (s .entry)) ⌝ }
+    ensures { λ r. ⌜ r ≡ answerNumber (roomCheck nmax (length (now (c .entry))) (length (now (s .entry)))) ⌝ }
+    ensures { λ r. ⌜ now (c .exit) ≡ after (roomCheck nmax (length (now (c .entry))) (length (now (s .entry)))) (fill 0 zeroAt (tableSize nmax) (now (c .entry))) (now (c .entry)) ⌝ }
+    ensures { λ r. ⌜ now (s .exit) ≡ after (roomCheck nmax (length (now (c .entry))) (length (now (s .entry)))) (fill 0 zeroAt (tableSize nmax) (now (s .entry))) (now (s .entry)) ⌝ }
 {
     coefficients::model_number(Head::zeros(gm, radius, nmax, c, s))
 }

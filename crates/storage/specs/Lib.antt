@@ -7,3 +7,4 @@ pub mod Fold
 pub mod Tabulate
 pub mod Triangle
 pub mod Answers
+pub mod Checks

@@ -1,7 +1,10 @@
 // Triangular storage of a table over degree n and order m: row n holds the orders 0 to n, and the rows follow each other.
+use refusal::Answer;
+use refusal::Number;
 use refusal::Refusal;
 ghost use mathlib.Core.Path.{_≡_};
 ghost use Rattle.storage.specs.Answers.{sizeOf, placeOf};
+ghost use Rattle.storage.specs.Checks.{tablesCheck, outputsCheck, entryAnswer};
 
 // The highest degree of a table.
 pub const MAX_DEGREE: usize = 2700;
@@ -36,4 +39,64 @@ pub fn place(nmax: usize, n: usize, m: usize) -> Index
         return Index::Refused(Refusal::Place);
     }
     Index::At(n * (n + 1) / 2 + m)
+}
+
+// The entry of degree n and order m of a table up to degree nmax.
+pub fn entry(nmax: usize, table: &[f64], n: usize, m: usize) -> Number
+    ensures { λ r. ⌜ r ≡ entryAnswer nmax (now (table .entry)) n m ⌝ }
+{
+    if nmax > MAX_DEGREE {
+        return Number::Refused(Refusal::Size);
+    }
+    if table.len() != table_size(nmax) {
+        return Number::Refused(Refusal::Length);
+    }
+    match place(nmax, n, m) {
+        Index::Refused(e) => Number::Refused(e),
+        Index::At(k) => Number::Value(table[k]),
+    }
+}
+
+// ---- the checks, over the lengths of the lists
+// SIZE, and LENGTH of the two tables.
+pub fn tables_check(nmax: usize, clen: usize, slen: usize) -> Answer
+    ensures { λ r. ⌜ r ≡ tablesCheck nmax clen slen ⌝ }
+{
+    if nmax > MAX_DEGREE {
+        return Answer::Refused(Refusal::Size);
+    }
+    let size = table_size(nmax);
+    if clen != size {
+        return Answer::Refused(Refusal::Length);
+    }
+    if slen != size {
+        return Answer::Refused(Refusal::Length);
+    }
+    Answer::Done
+}
+
+// The same, and SPACE for two tables up to degree top.
+pub fn outputs_check(
+    nmax: usize,
+    clen: usize,
+    slen: usize,
+    top: usize,
+    a: usize,
+    b: usize,
+) -> Answer
+    ensures { λ r. ⌜ r ≡ outputsCheck nmax clen slen top a b ⌝ }
+{
+    match tables_check(nmax, clen, slen) {
+        Answer::Refused(e) => Answer::Refused(e),
+        Answer::Done => {
+            let size = table_size(top);
+            if a < size {
+                return Answer::Refused(Refusal::Space);
+            }
+            if b < size {
+                return Answer::Refused(Refusal::Space);
+            }
+            Answer::Done
+        }
+    }
 }

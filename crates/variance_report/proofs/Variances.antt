@@ -13,7 +13,8 @@ use Rattle.storage.specs.Fill.{fill}
 use Rattle.storage.specs.Store.{store}
 use Rattle.storage.specs.Tabulate.{tabulate}
 use Rattle.storage.specs.Triangle.{tableSize}
-use Rattle.coefficients.specs.Checks.{variancesCheck, tables-done, done-then}
+use Rattle.storage.specs.Checks.{tables-done, done-then}
+use Rattle.coefficients.specs.Checks.{variancesCheck}
 use Rattle.coefficients.specs.Values.{varianceOf}
 use Rattle.variance_report.specs.Report.{numbersOf}
 use Rattle.variance_report.proofs.Lists.{take-stored, take-filled}

@@ -1,7 +1,8 @@
 -- `Head::degree_variances` meets its contract: each way through its checks, and the variances past them. Assumes nothing.
 use borrow.Author.Tests.{le-leb, lt-leb}
 use Rattle.refusal.specs.Numbers.{refuse-yes, refuse-no}
-use Rattle.coefficients.specs.Checks.{variancesCheck, tables-passed, refused-then, done-then}
+use Rattle.storage.specs.Checks.{tables-passed, refused-then, done-then}
+use Rattle.coefficients.specs.Checks.{variancesCheck}
 use native.Mathlib.Omega.{arith}
 use mathlib.Core.Path.{refl, sym, _∙_}
 use borrow.Author.Needs.{needs}

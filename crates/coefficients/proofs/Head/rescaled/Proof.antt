@@ -1,6 +1,7 @@
 -- `Head::rescaled` meets its contract: past the checks both tables are rescaled. Assumes nothing.
 use Rattle.coefficients.specs.Model.{model-refused, model-made}
-use Rattle.coefficients.specs.Checks.{outputs-passed}
+use Rattle.storage.specs.Answers.{size-is}
+use Rattle.storage.specs.Checks.{outputs-passed}
 use borrow.Author.Needs.{needs}
 use native.Mathlib.Omega.{arith}
 use mathlib.Core.Path.{refl, sym, _∙_}
@@ -11,7 +12,8 @@ rescale-requires : tie.Need-rescale-requires
 rescale-requires c κs =
     let ok = sym (c .before .before .before .before .enum-told .given .1) ∙ c .before .before .before .before .before .before .outputs-check .ensures in
     let o = outputs-passed _ _ _ _ _ _ ok in
-    (o .tables .top, (omega arith, (omega arith, (o .first, o .second))))
+    let z = size-is _ (o .tables .top) in
+    (o .tables .top, (omega arith, (omega arith, (omega arith, omega arith))))
 
 returns : tie.Need-returns
 returns c = (model-refused _ _ (sym (c .before .e .given .1) ∙ c .before .before .before .outputs-check .ensures), (refl, refl))
@@ -30,4 +32,4 @@ returns-2 c =
 pub rescaled-spec : {M : Type 1} → statement M
 rescaled-spec =
     tie.close
-    (tie.spec (λ c κs. omega arith) (λ c. search needs) (λ c. search needs) rescale-requires returns same-length same-length-2 returns-2)
+    (tie.spec (λ c κs. search needs) (λ c. search needs) (λ c. search needs) rescale-requires returns same-length same-length-2 returns-2)

@@ -1,7 +1,8 @@
 -- `Head::set` meets its contract: past its checks it writes the one index of both lists. Assumes nothing.
 use lib.ListN.{set}
 use Rattle.storage.specs.Answers.{placed}
-use Rattle.coefficients.specs.Checks.{setCheck, placeCheck, tables-passed, refused-then, done-then}
+use Rattle.storage.specs.Checks.{placeCheck, tables-passed, refused-then, done-then}
+use Rattle.coefficients.specs.Checks.{setCheck}
 use native.Mathlib.Omega.{arith}
 use mathlib.Core.Path.{refl, sym, ap, _∙_}
 use Prim.Native.Nat.{ℕ}

@@ -4,20 +4,13 @@ use native.Mathlib.Nat.{min-le-right}
 use Rattle.storage.specs.Filled.{filled-to}
 use Rattle.coefficients.specs.Model.{model-refused, model-made}
 use Rattle.storage.specs.Answers.{size-is}
-use Rattle.coefficients.specs.Checks.{outputs-passed}
+use Rattle.storage.specs.Checks.{outputs-passed}
 use borrow.Author.Needs.{needs}
 use native.Mathlib.Omega.{arith}
 use mathlib.Core.Path.{refl, sym, _∙_}
 use Prim.Native.Nat.{_+_}
 use Rattle.coefficients.proofs.Head.truncated.Statement.{statement}
 use Rattle.coefficients.proofs.Head.truncated.Tie as tie
-
-outputs-check-requires : tie.Need-outputs-check-requires
-outputs-check-requires c κs =
-    let a = c .before .before .before .before .before .args in
-    let i = min-le-right (a .cut) (a .self .nmax) in
-    let m = c .smaller .ensures in
-    omega arith
 
 copy-requires : tie.Need-copy-requires
 copy-requires c κs =
@@ -63,5 +56,5 @@ returns-2 c =
 pub truncated-spec : {M : Type 1} → statement M
 truncated-spec =
     tie.close
-    (tie.spec (λ c κs. search needs) outputs-check-requires (λ c. search needs) (λ c. search needs) (λ c κs. search needs) copy-requires copy-requires-2
+    (tie.spec (λ c κs. search needs) (λ c κs. search needs) (λ c. search needs) (λ c. search needs) (λ c κs. search needs) copy-requires copy-requires-2
     returns same-length same-length-2 returns-2)

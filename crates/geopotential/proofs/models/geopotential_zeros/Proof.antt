@@ -3,7 +3,7 @@ use borrow.Author.Needs.{needs}
 use mathlib.Core.Path.{_≡_}
 use lib.ListN.{length}
 use Rattle.coefficients.specs.Model.{outcome}
-use Rattle.coefficients.specs.Checks.{zerosCheck}
+use Rattle.storage.specs.Checks.{roomCheck}
 use Rattle.coefficients.specs.Values.{zeroHead}
 use Rattle.geopotential.specs.Models.{outcome-is}
 use Rattle.storage.specs.Fill.{length-fill}
@@ -22,7 +22,7 @@ same-length-2 c =
 returns : tie.Need-returns
 returns c =
     let a = c .before .before .before .before .before .before .before .before .before .before .args in
-    let check = zerosCheck (a .nmax) (length (a .c .now)) (length (a .s .now)) in
+    let check = roomCheck (a .nmax) (length (a .c .now)) (length (a .s .now)) in
     let e : outcome (c .before .before .before .before .before .zeros .result) ≡ check = outcome-is check (zeroHead (a .gm) (a .radius) (a .nmax)) (c .before .before .before .before .before .zeros .ensures .0) in
     (rw (← e) (c .model-number .ensures), (rw (← e) (c .before .before .before .before .before .zeros .ensures .1 .0), rw (← e) (c .before .before .before .before .before .zeros .ensures .1 .1)))
 

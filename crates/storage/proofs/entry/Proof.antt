@@ -1,12 +1,12 @@
 -- `entry` meets its contract: an index that `storage::place` answers lies within the table. Assumes nothing.
 use Rattle.storage.specs.Triangle.{table-size-most}
 use Rattle.storage.specs.Answers.{size-is, placed}
-use Rattle.coefficients.specs.Checks.{entry-size, entry-length, entry-at}
+use Rattle.storage.specs.Checks.{entry-size, entry-length, entry-at}
 use native.Mathlib.Omega.{arith}
 use mathlib.Core.Path.{sym, _∙_}
 use borrow.Author.Needs.{needs}
-use Rattle.coefficients.proofs.entry.Statement.{statement}
-use Rattle.coefficients.proofs.entry.Tie as tie
+use Rattle.storage.proofs.entry.Statement.{statement}
+use Rattle.storage.proofs.entry.Tie as tie
 
 returns : tie.Need-returns
 returns c = entry-size _ _ _ _ (omega arith)

@@ -1,11 +1,11 @@
 -- `tables_check` meets its contract: each way through it has its law. Assumes nothing.
 use Rattle.storage.specs.Answers.{size-is}
-use Rattle.coefficients.specs.Checks.{tables-size, tables-c, tables-s, tables-done}
+use Rattle.storage.specs.Checks.{tables-size, tables-c, tables-s, tables-done}
 use native.Mathlib.Omega.{arith}
 use mathlib.Core.Path.{_∙_}
 use borrow.Author.Needs.{needs}
-use Rattle.coefficients.proofs.tables_check.Statement.{statement}
-use Rattle.coefficients.proofs.tables_check.Tie as tie
+use Rattle.storage.proofs.tables_check.Statement.{statement}
+use Rattle.storage.proofs.tables_check.Tie as tie
 
 returns : tie.Need-returns
 returns c = tables-size _ _ _ (omega arith)
