@@ -3,6 +3,8 @@
 
 unsafe extern "C" {
     pub safe fn geopotential_root(x: f64) -> f64;
+    /// The root by way of a guess at it, which may be any number.
+    pub safe fn geopotential_root_near(x: f64, guess: f64) -> f64;
     pub safe fn geopotential_hypot(x: f64, y: f64) -> f64;
     pub safe fn geopotential_signum(x: f64) -> f64;
     pub safe fn geopotential_magnitude(x: f64) -> f64;
@@ -115,5 +117,42 @@ unsafe extern "C" {
         s_len: usize,
         out: *mut u8,
         out_len: usize,
+    ) -> u32;
+
+    pub fn geopotential_legendre_new(nmax: usize, a: *mut f64, a_len: usize, b: *mut f64, b_len: usize) -> u32;
+    pub fn geopotential_legendre_compute(
+        nmax: usize,
+        t: f64,
+        u: f64,
+        a: *const f64,
+        a_len: usize,
+        b: *const f64,
+        b_len: usize,
+        p: *mut f64,
+        p_len: usize,
+    ) -> u32;
+    pub fn geopotential_legendre_compute_with_derivative(
+        nmax: usize,
+        t: f64,
+        u: f64,
+        a: *const f64,
+        a_len: usize,
+        b: *const f64,
+        b_len: usize,
+        p: *mut f64,
+        p_len: usize,
+        dp: *mut f64,
+        dp_len: usize,
+    ) -> u32;
+    /// One entry of a table of P, or of its derivatives.
+    pub fn geopotential_legendre_entry(nmax: usize, table: *const f64, table_len: usize, n: usize, m: usize, value: *mut f64) -> u32;
+    pub fn geopotential_gauss_legendre(
+        n: usize,
+        guesses: *const f64,
+        guesses_len: usize,
+        x: *mut f64,
+        x_len: usize,
+        w: *mut f64,
+        w_len: usize,
     ) -> u32;
 }

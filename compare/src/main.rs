@@ -6,11 +6,14 @@ mod constants;
 mod entries;
 mod functional;
 mod guarded;
+mod legendre;
 mod lent;
 mod model_file;
 mod number;
 mod oracle_check;
 mod refusal;
+mod sizes;
+mod table_entry;
 mod tally;
 mod timing;
 
@@ -24,7 +27,7 @@ usage: compare [--seed NUMBER] [--quick] [SUBJECT...]   same bits as the oracle,
        compare oracle                                   only check that the oracle itself works
        compare bench [SUBJECT...]                       ours, the Rust's, their ratio
        compare replay SUBJECT FILE                      write the oracle's answers as Rattle constants
-subjects: number, functional, coefficients, model_file";
+subjects: number, functional, coefficients, model_file, legendre";
 
 /// One crate of the library: what can be done with it here.
 struct Subject {
@@ -44,6 +47,7 @@ const SUBJECTS: &[Subject] = &[
         replay: coefficients::replay::replay,
     },
     Subject { name: "model_file", compare: model_file::compare, bench: model_file::bench::bench, replay: model_file::replay::replay },
+    Subject { name: "legendre", compare: legendre::compare, bench: legendre::bench::bench, replay: legendre::replay::replay },
 ];
 
 fn subject(name: &str) -> Result<&'static Subject, String> {

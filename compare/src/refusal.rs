@@ -55,3 +55,8 @@ impl Checks<'_> {
 pub fn fault(ours: u32, due: u32) -> Option<String> {
     (ours != due).then(|| format!("refusal {ours}, due {due}"))
 }
+
+/// The answer of an accepted call, nothing on a refusal.
+pub fn answered<T>(due: u32, answer: impl FnOnce() -> T) -> Option<T> {
+    (due == 0).then(answer)
+}

@@ -90,3 +90,14 @@ pub fn latency(name: &str, inputs: &[f64], passes: usize, ours: impl Fn(f64) -> 
     }
     race(name, inputs.len() * passes, || chain(inputs, passes, &ours), || chain(inputs, passes, &rust));
 }
+
+/// An answer that the Rust has allocated, looked at and given back.
+pub fn allocated<T>(answer: T) -> u32 {
+    black_box(&answer);
+    0
+}
+
+/// The refusals of all calls, so that none is left out.
+pub fn repeat(calls: usize, mut call: impl FnMut() -> u32) -> u32 {
+    (0..calls).map(|_| black_box(call())).fold(0, |all, refusal| all | refusal)
+}

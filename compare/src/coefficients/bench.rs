@@ -3,11 +3,11 @@
 
 use oracle::Coefficients;
 
-use super::fields::table;
 use crate::cases::Cases;
 use crate::entries::*;
 use crate::functional::{EARTH, NAMES, functional};
-use crate::timing::race;
+use crate::sizes::table;
+use crate::timing::{allocated, race, repeat};
 
 pub fn bench() {
     for (nmax, cut, calls) in [(96, 60, 500), (2700, 2160, 1)] {
@@ -71,15 +71,4 @@ fn degree(nmax: usize, cut: usize, calls: usize) {
         let rust = || repeat(calls, || allocated(field.degree_amplitudes(&functional(number, &love))));
         race(&format!("amplitudes, {}, N = {nmax}", NAMES[number as usize]), calls, ours, rust);
     }
-}
-
-/// An answer that the Rust has allocated, looked at and given back.
-fn allocated<T>(answer: T) -> u32 {
-    std::hint::black_box(&answer);
-    0
-}
-
-/// The refusals of all calls, so that none is left out.
-fn repeat(calls: usize, mut call: impl FnMut() -> u32) -> u32 {
-    (0..calls).map(|_| std::hint::black_box(call())).fold(0, |all, refusal| all | refusal)
 }

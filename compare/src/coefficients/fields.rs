@@ -3,16 +3,12 @@
 use oracle::Coefficients;
 
 use crate::cases::Cases;
-use crate::refusal::{BEYOND, MAX_DEGREE, pairs};
+use crate::refusal::MAX_DEGREE;
+use crate::sizes::around;
 
 /// The random fields of a call, and the degrees of its large ones.
 pub const COUNT: u64 = 40_000;
 pub const LARGE: [usize; 4] = [40, 96, 360, 2700];
-
-/// T as a length.
-pub fn table(nmax: usize) -> usize {
-    pairs(nmax) as usize
-}
 
 /// A random field: strange numbers, or ordinary ones, or ordinary ones with a few strange.
 pub fn field(cases: &mut Cases, nmax: usize) -> Coefficients {
@@ -32,27 +28,6 @@ pub fn field(cases: &mut Cases, nmax: usize) -> Coefficients {
         *cell = draw(40);
     }
     field
-}
-
-/// Every choice of one of 0, the stated length and its neighbours for each list.
-fn choices(stated: &[usize], about: impl Fn(usize) -> Vec<usize>) -> Vec<Vec<usize>> {
-    stated.iter().fold(vec![vec![]], |lists, &length| {
-        lists.iter().flat_map(|list| about(length).into_iter().map(|length| [list.as_slice(), &[length]].concat())).collect()
-    })
-}
-
-/// Degrees and lengths for a field of degree N: every mixture of wrong and right lengths, degrees that are too large, and
-/// degrees that don't belong to the lengths.
-pub fn around(nmax: usize, stated: &[usize], mut one: impl FnMut(usize, &[usize])) {
-    for lengths in choices(stated, |length| vec![0, length - 1, length, length + 1]) {
-        one(nmax, &lengths);
-    }
-    for lengths in choices(stated, |length| vec![0, length]) {
-        BEYOND.iter().for_each(|&degree| one(degree, &lengths));
-        one(MAX_DEGREE, &lengths);
-    }
-    one(nmax + 1, stated);
-    one(nmax.saturating_sub(1), stated);
 }
 
 /// What one call is tried with.

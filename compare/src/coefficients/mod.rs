@@ -10,9 +10,11 @@ use crate::cases::Cases;
 use crate::entries::*;
 use crate::functional::{NO_FUNCTIONALS, WATER_HEIGHT, functional};
 use crate::guarded::Guarded;
-use crate::refusal::{BEYOND, Checks, MAX_DEGREE, NO_FUNCTIONAL, fault, pairs};
+use crate::refusal::{BEYOND, Checks, NO_FUNCTIONAL, answered, fault, pairs};
+use crate::sizes::{beside, table};
+use crate::table_entry::{entry, places};
 use crate::tally::{Report, Tally, shown};
-use fields::{COUNT, LARGE, Plan, field, table};
+use fields::{COUNT, LARGE, Plan, field};
 
 pub fn compare(report: &mut Report) {
     report.call("coefficients.zeros", |tally, cases| {
@@ -43,16 +45,6 @@ fn lists(field: &Coefficients, lengths: &[usize]) -> (Guarded<f64>, Guarded<f64>
     (Guarded::of(&field.c, lengths[0]), Guarded::of(&field.s, lengths[1]))
 }
 
-/// Lengths, each beside the stated one.
-fn beside(lengths: &[usize], stated: u128) -> Vec<(usize, u128)> {
-    lengths.iter().map(|&length| (length, stated)).collect()
-}
-
-/// The answer of an accepted call, nothing on a refusal.
-fn answered<T>(due: u32, answer: impl FnOnce() -> T) -> Option<T> {
-    (due == 0).then(answer)
-}
-
 /// `zeros`, whose gm and radius may be any numbers.
 fn zeros(tally: &mut Tally, gm: f64, radius: f64, nmax: usize, lengths: &[usize]) {
     let (mut c, mut s) = (Guarded::marked(lengths[0]), Guarded::marked(lengths[1]));
@@ -63,34 +55,9 @@ fn zeros(tally: &mut Tally, gm: f64, radius: f64, nmax: usize, lengths: &[usize]
     tally.call(fault, || format!("zeros, N {nmax}, lengths {lengths:?}, gm {}, radius {}", shown(gm), shown(radius)));
 }
 
-/// Entries at every place of a small table and about it, else at some.
+/// The entries of both tables, and `set`.
 fn entries(tally: &mut Tally, cases: &mut Cases, field: &Coefficients, nmax: usize, lengths: &[usize]) {
-    let mut places: Vec<(usize, usize)> = Vec::new();
-    if nmax <= 8 {
-        places.extend((0..nmax + 2).flat_map(|n| (0..n + 2).map(move |m| (n, m))));
-    } else {
-        let top = nmax.saturating_add(1);
-        places.extend([(nmax, nmax), (top, 0)]);
-        // A list of degree 2700 takes long to look through.
-        if lengths[0] < table(MAX_DEGREE) {
-            places.extend([(0, 0), (0, 1), (1, 1), (nmax, 0), (nmax, top), (nmax - 1, nmax)]);
-        }
-    }
-    if nmax <= 360 {
-        let n = cases.below(nmax as u64 + 1) as usize;
-        places.push((n, cases.below(n as u64 + 1) as usize));
-        // Places whose position wraps around to one in the table, and n in the place of m.
-        places.extend([
-            (usize::MAX, usize::MAX),
-            (usize::MAX, 0),
-            (0, usize::MAX),
-            (1 << 32, 0),
-            (1 << 32, 1 << 32),
-            (n, n + 1),
-            (n / 2, n),
-        ]);
-    }
-    for (n, m) in places {
+    for (n, m) in places(cases, nmax, lengths[0]) {
         let due = |lengths: &[usize]| {
             let inputs = beside(lengths, pairs(nmax));
             Checks { degree: nmax, inputs: &inputs, place: Some((n, m)), ..Checks::default() }.due()
@@ -101,25 +68,6 @@ fn entries(tally: &mut Tally, cases: &mut Cases, field: &Coefficients, nmax: usi
         entry(tally, ("s", geopotential_coefficient_s), nmax, Guarded::of(&field.s, lengths[1]), (n, m), due_s, s);
         set(tally, field, nmax, lengths, (n, m), (cases.number(), cases.number()), due(lengths));
     }
-}
-
-/// The entry of c or of s: both calls have the same parameters.
-type Entry = unsafe extern "C" fn(usize, *const f64, usize, usize, usize, *mut f64) -> u32;
-
-/// One entry of a table by our call, which reads the list and writes the value alone.
-fn entry(
-    tally: &mut Tally,
-    (name, call): (&str, Entry),
-    nmax: usize,
-    mut list: Guarded<f64>,
-    (n, m): (usize, usize),
-    due: u32,
-    answer: Option<f64>,
-) {
-    let mut value = Guarded::marked(1);
-    let ours = unsafe { call(nmax, list.pointer(), list.len(), n, m, value.pointer()) };
-    let fault = fault(ours, due).or_else(|| value.fault("value", answer.as_slice())).or_else(|| list.fault(name, &[]));
-    tally.call(fault, || format!("{name}({n}, {m}), N {nmax}, length {}", list.len()));
 }
 
 /// `set` writes one place of each list and leaves the bits of all others, a NaN's too.

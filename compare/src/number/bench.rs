@@ -32,6 +32,8 @@ pub fn bench() {
     throughput("root", &positive, PASSES, |x| geopotential_root(x), f64::sqrt);
     throughput("root, subnormal", &subnormal, PASSES, |x| geopotential_root(x), f64::sqrt);
     latency("root, latency (with one addition)", &positive, PASSES, |x| geopotential_root(x), f64::sqrt);
+    let near: Vec<(f64, f64)> = positive.iter().map(|&x| (x, x.sqrt())).collect();
+    throughput("root_near, from the root", &near, PASSES, |(x, guess)| geopotential_root_near(x, guess), |(x, _)| x.sqrt());
     throughput("hypot", &pairs, PASSES, |(x, y)| geopotential_hypot(x, y), |(x, y)| x.hypotenuse(y));
     throughput("powi, exponent 2", &powers(&|_| 2), PASSES, |(q, n)| geopotential_powi(q, n), |(q, n)| q.power(n));
     throughput("powi, exponents 0 to 2700", &powers(&|i| i * 37 % 2701), PASSES, |(q, n)| geopotential_powi(q, n), |(q, n)| q.power(n));

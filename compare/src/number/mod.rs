@@ -19,6 +19,7 @@ pub fn ranks_before(x: f64, y: f64) -> u32 {
 
 pub fn compare(report: &mut Report) {
     report.call("number.root", root);
+    report.call("number.root_near", root_near);
     report.call("number.hypot", hypot);
     report.call("number.powi", powi);
     report.call("number.signum", |tally, cases| one_number(tally, cases, |x| (geopotential_signum(x), x.sign())));
@@ -31,6 +32,21 @@ fn root(tally: &mut Tally, cases: &mut Cases) {
     root_cases::all(cases, |bits| {
         let x = f64::from_bits(bits);
         tally.numbers(geopotential_root(x), x.sqrt(), || shown(x));
+    });
+}
+
+/// The same inputs, each with one guess: the root, its neighbours, or any number.
+fn root_near(tally: &mut Tally, cases: &mut Cases) {
+    let mut others = Cases::new(cases.bits(), 1);
+    root_cases::all(cases, |bits| {
+        let x = f64::from_bits(bits);
+        let guess = match others.below(8) {
+            0 => x.sqrt(),
+            k @ 1..=5 => f64::from_bits(x.sqrt().to_bits().wrapping_add(k).wrapping_sub(3)),
+            6 => x.sqrt() * (1.0 + 1e-10 * (others.fraction() - 0.5)),
+            _ => others.number(),
+        };
+        tally.numbers(geopotential_root_near(x, guess), x.sqrt(), || format!("{}, guess {}", shown(x), shown(guess)));
     });
 }
 

@@ -74,13 +74,6 @@ pub fn model_number(a: Model) -> u32
     }
 }
 
-// The smaller of two degrees.
-fn smaller(a: usize, b: usize) -> usize
-    ensures { λ r. ⌜ r ≡ min a b ⌝ }
-{
-    if a < b { a } else { b }
-}
-
 impl Head {
     // All-zero coefficients up to degree nmax, with the tide system unknown.
     pub fn zeros(gm: f64, radius: f64, nmax: usize, c: &mut [f64], s: &mut [f64]) -> Model
@@ -164,7 +157,7 @@ impl Head {
     {
         let nmax = self.nmax;
         let tide = self.tide_system;
-        let top = smaller(cut, nmax);
+        let top = storage::smaller(cut, nmax);
         match storage::outputs_check(nmax, c.len(), s.len(), top, outc.len(), outs.len()) {
             Answer::Refused(e) => Model::Refused(e),
             Answer::Done => {

@@ -2,7 +2,7 @@
 use mathlib.Core.Path.{_≡_, refl}
 use mathlib.Core.List.{List, [], _∷_}
 use Prim.Native.Nat.{ℕ}
-use lib.Ieee.{Float, ofBits, ofInt, add, sub, mul, div, lt, eq, isNan}
+use lib.Ieee.{Float, ofBits, ofInt, neg, add, sub, mul, div, le, lt, eq, isNan}
 use Rattle.number.specs.Float64.{double, one64}
 use Rattle.number.specs.Root.{rootOf, squareRoot}
 use Rattle.number.specs.Sign.{isInfinite, magnitudeOf}
@@ -11,6 +11,8 @@ use Rattle.number.specs.Power.{powerOf, powerTurns, timesIfOdd, squareUnlessZer
 use Rattle.functional.specs.Factor.{factorOf}
 use Rattle.functional.specs.declared.Functional.the-variants.{Potential, GravityAnomaly, RadialGradient}
 use Rattle.storage.specs.Triangle.{idx, rowStart}
+use Rattle.storage.specs.Iterate.{turns, iterate, iterateUntil}
+use Rattle.quadrature.specs.Gauss.{bonnetTurn, legendre, corrected, newtonStep, legendreRoot, upperNode, upperWeight, gaussNode, gaussWeight}
 
 -- a value is a double or a whole number
 pub data Value : Type 0 where
@@ -54,8 +56,11 @@ table =
     ∷ (number (factorOf GravityAnomaly [] eight two two 1), number (double 0))
     ∷ (number (factorOf GravityAnomaly [] eight two two 2), number two)
     ∷ (number (factorOf RadialGradient [] eight two two 0), number two)
+    -- Gauss with n 1 and guess 2^−54 has node +0 and weight 2
+    ∷ (number (gaussNode (λ i. double 0x3c90_0000_0000_0000) 1 0), number (double 0))
+    ∷ (number (gaussWeight (λ i. double 0x3c90_0000_0000_0000) 1 0), number two)
     ∷ []
 
 pub marked : worked table ≡ stated table
-unfolding table squareRoot hypotOf longOf ofSizes isInfinite magnitudeOf isNan rowStart factorOf powerOf powerTurns timesIfOdd squareUnlessZero ofBits ofInt add sub mul div lt eq
+unfolding table gaussNode gaussWeight upperNode upperWeight legendreRoot newtonStep corrected legendre bonnetTurn iterateUntil iterate turns neg le squareRoot hypotOf longOf ofSizes isInfinite magnitudeOf isNan rowStart factorOf powerOf powerTurns timesIfOdd squareUnlessZero ofBits ofInt add sub mul div lt eq
 marked = refl

@@ -7,3 +7,4 @@ mod files;
 mod functionals;
 mod models;
 mod numbers;
+mod tables;

@@ -15,6 +15,14 @@ pub extern "C" fn geopotential_root(x: f64) -> f64
     number::root(x)
 }
 
+// The root by way of a guess at it, which may be any number.
+#[no_mangle]
+pub extern "C" fn geopotential_root_near(x: f64, guess: f64) -> f64
+    ensures { λ r. ⌜ r ≡ rootOf x ⌝ }
+{
+    number::root_near(x, guess)
+}
+
 #[no_mangle]
 pub extern "C" fn geopotential_hypot(x: f64, y: f64) -> f64
     ensures { λ r. ⌜ r ≡ hypotOf x y ⌝ }

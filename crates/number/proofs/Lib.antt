@@ -3,3 +3,4 @@ mod Squares
 mod Floats
 mod Patterns
 mod Cases
+mod Scaled

@@ -83,7 +83,7 @@ near-of a q h k b lo hi = record {
   most = lt-of-not-le (λ (g : 2 ^ 53 ≤ q). too-large a q k b lo g);
 }
 
--- ---- what `correct` computes: what a * 2 ^ 52 has over q * q, with 2 ^ 56 added
+-- ---- what `corrected` computes: what a * 2 ^ 52 has over q * q, with 2 ^ 56 added
 abbrev pub remainder : (a H m L : ℕ) → ℕ
 remainder a H m L = ((a + 8 - H) * 33554432 + 268435456 - m) * 134217728 - L
 

@@ -15,3 +15,4 @@ pub mod Order
 pub mod OrderLaws
 pub mod Ranking
 pub mod RankingLaws
+pub mod Whole

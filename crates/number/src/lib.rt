@@ -58,6 +58,27 @@ pub fn root(x: f64) -> f64
     }
 }
 
+// The square root of x, rounded once, by way of a guess at it. Any guess gives the same answer; a guess within a unit or so of the last
+// digit saves the estimate. Only the guess's digits are used, with the exponent that the root has.
+pub fn root_near(x: f64, guess: f64) -> f64
+    ensures { λ r. ⌜ r ≡ rootOf x ⌝ }
+{
+    if x > 2.225073858507201e-308 {
+        let b = f64::to_bits(x);
+        if b < 0x7ff0_0000_0000_0000 {
+            if guess > 0.0 {
+                let v = b + 4598175219545276416;
+                let q = f64::to_bits(guess) % 4503599627370496 + 4503599627370496;
+                let checked = root_digits::corrected(root_digits::radicand(v), q);
+                if checked.nearest {
+                    return f64::from_bits(v / 9007199254740992 * 4503599627370496 + checked.digits);
+                }
+            }
+        }
+    }
+    root(x)
+}
+
 // The number that a bit pattern stands for. Every NaN's pattern gives the one NaN.
 pub fn number_of_bits(bits: u64) -> f64
     ensures { λ r. ⌜ r ≡ ofBits binary64 bits ⌝ }

@@ -62,12 +62,12 @@ entryAnswer nmax list n m =
     refuseValue (ltb 2700 nmax) Size (refuseValue (not (eqb (length list) (tableSize nmax))) Length (valueAt list (placeOf nmax n m)))
 
 -- ---- one law for each way through the checks
-past : (ground : Bool) (e : Refusal) (a : Answer) → Done ≡ refuse ground e a → T (not ground) × (Done ≡ a)
+pub past : (ground : Bool) (e : Refusal) (a : Answer) → Done ≡ refuse ground e a → T (not ground) × (Done ≡ a)
 unfolding refuse
 past true e a h = absurd (let z : _≡_ {A = ℕ} 0 1 = cc in omega arith)
 past false e a h = (tt, h)
 
-both : (a b : Answer) → Done ≡ a andThen b → (Done ≡ a) × (Done ≡ b)
+pub both : (a b : Answer) → Done ≡ a andThen b → (Done ≡ a) × (Done ≡ b)
 both Done b h = (refl, h)
 both (Refused e) b h = absurd (let z : _≡_ {A = ℕ} 0 1 = cc in omega arith)
 

@@ -157,6 +157,10 @@ along-same f g N e k h =
     let (b, i) = idx-degree-order k in
     e (degreeOrder k .0) (degreeOrder k .1) b (idx-degree (degreeOrder k .0) (degreeOrder k .1) N (omega arith))
 
+-- what a list holds at degree n and order m, with z past its end
+unfoldable pub cells : {A : Type 0} → List A → A → ℕ → ℕ → A
+cells l z n m = getD l (idx n m) z
+
 module _ {A : Type 0} (f : ℕ → ℕ → A) (n : ℕ) {at k : ℕ} {d l : List A} where
   -- row n written after the rows below it, in a table that starts at index at
   pub rows-more : {at′ j : ℕ} {l′ : List A} → Filled at (along f) k d l → Filled at′ (f n) j l l′ → k ≡ rowStart n → at′ ≡ at + k → j ≡ n + 1

@@ -3,6 +3,7 @@ use refusal::Answer;
 use refusal::Number;
 use refusal::Refusal;
 ghost use mathlib.Core.Path.{_≡_};
+ghost use Prim.Native.Nat.{min};
 ghost use Rattle.storage.specs.Answers.{sizeOf, placeOf};
 ghost use Rattle.storage.specs.Checks.{tablesCheck, outputsCheck, entryAnswer};
 
@@ -99,4 +100,11 @@ pub fn outputs_check(
             Answer::Done
         }
     }
+}
+
+// The smaller of two degrees.
+pub fn smaller(a: usize, b: usize) -> usize
+    ensures { λ r. ⌜ r ≡ min a b ⌝ }
+{
+    if a < b { a } else { b }
 }

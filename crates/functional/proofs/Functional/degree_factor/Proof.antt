@@ -2,7 +2,7 @@
 use native.Mathlib.Omega.{arith}
 use borrow.Author.Needs.{needs}
 use Rattle.functional.specs.Factor.{factorOf}
-use Rattle.functional.proofs.Facts.{whole}
+use Rattle.number.specs.Whole.{whole}
 use Rattle.functional.proofs.Functional.degree_factor.Statement.{statement}
 use Rattle.functional.proofs.Functional.degree_factor.Tie as tie
 

@@ -1,0 +1,53 @@
+//! The oracle's answers on tables of degree 4 and on rules of few nodes.
+
+use oracle::standins::tricomi;
+use oracle::{Legendre, gauss_legendre};
+
+use crate::constants::{array, number};
+use crate::lent::pair;
+
+const NMAX: usize = 4;
+
+fn numbers(list: &[f64]) -> Vec<String> {
+    list.iter().map(|&x| number(x)).collect()
+}
+
+/// P and its derivatives at one pair, one after the other, after the pair itself.
+fn at(legendre: &mut Legendre, (t, u): (f64, f64)) -> Vec<f64> {
+    legendre.compute_with_derivative((t, u));
+    [&[t, u], legendre.p.as_slice(), legendre.dp.as_slice()].concat()
+}
+
+/// Tables with special numbers among the own ones.
+fn special() -> Legendre {
+    let mut legendre = Legendre::new(NMAX);
+    // At (1, 0) an infinite b meets q2 = 0.0.
+    (legendre.a[4], legendre.b[1], legendre.b[7]) = (-0.0, f64::INFINITY, f64::NAN);
+    (legendre.a[6], legendre.b[10], legendre.a[11]) = (f64::from_bits(1), -1e300, 1e308);
+    legendre
+}
+
+pub fn replay() -> String {
+    let mut text = String::from("// The oracle's answers for the crate legendre, numbers as bit patterns.\n");
+    text += "// Written by `compare/run replay legendre FILE` (see compare/README.md), never by hand.\n";
+    let mut list = |comment: &str, name: &str, list: &[f64]| text += &array(comment, name, &numbers(list));
+    let (mut own, mut special) = (Legendre::new(NMAX), special());
+    list("the recursion coefficients a up to degree 4", "A", &own.a);
+    list("the recursion coefficients b", "B", &own.b);
+    list("a table a with special numbers", "SPECIAL_A", &special.a);
+    list("a table b with special numbers", "SPECIAL_B", &special.b);
+    list("a pair t, u, then P and its derivatives", "MIDDLE", &at(&mut own, pair(0.3)));
+    list("the same at a pole", "POLE", &at(&mut own, (-1.0, 0.0)));
+    list("at the equator", "EQUATOR", &at(&mut own, (0.0, 1.0)));
+    list("at a pair that is no latitude's", "OUTSIDE", &at(&mut own, (1e300, 0.0)));
+    list("with the special tables", "SPECIAL", &at(&mut special, pair(-0.7)));
+    for (n, name) in [(1, "ONE"), (2, "TWO"), (3, "THREE"), (8, "EIGHT")] {
+        let guesses = tricomi(n);
+        let (x, w) = gauss_legendre(n, &guesses);
+        list(&format!("{n} nodes: the guesses, the nodes, the weights"), &format!("GAUSS_{name}"), &[guesses, x, w].concat());
+    }
+    let guesses = [f64::NAN, 2.0, -0.0];
+    let (x, w) = gauss_legendre(5, &guesses);
+    list("five nodes from strange guesses", "GAUSS_STRANGE", &[guesses.to_vec(), x, w].concat());
+    text
+}

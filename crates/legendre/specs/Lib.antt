@@ -1,0 +1,5 @@
+pub mod Recursion
+pub mod RecursionLaws
+pub mod Rows
+pub mod Derivative
+pub mod Checks

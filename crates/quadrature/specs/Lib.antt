@@ -1,0 +1,3 @@
+pub mod Gauss
+pub mod GaussLaws
+pub mod GaussExamples
