@@ -27,10 +27,6 @@ abbrev pub rescaledHead : Head → Float → Float → Head
 rescaledHead h gm radius = record { gm = gm; radius = radius; «tide_system» = h .«tide_system»; nmax = h .nmax }
 
 -- ---- entries
--- +0, at every index
-abbrev pub zeroAt : ℕ → Float
-zeroAt k = zero64
-
 -- C(n,m) times (GM/GM') (R/R')^n, where q and t are the two quotients: the quotient first, then times the power
 unfoldable pub rescaledEntry : Float → Float → List Float → ℕ → ℕ → Float
 rescaledEntry q t list n m = getD list (idx n m) nan ⊗ (q ⊗ powerOf t n)

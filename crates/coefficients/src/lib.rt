@@ -14,13 +14,13 @@ ghost use lib.ListN.{length, set};
 ghost use lib.Ieee.{nan};
 ghost use Rattle.refusal.specs.Numbers.{after};
 ghost use Rattle.number.specs.Float64.{_⊘_};
-ghost use Rattle.storage.specs.Elements.{from};
+ghost use Rattle.storage.specs.Elements.{zeroAt, from};
 ghost use Rattle.storage.specs.Fill.{fill};
 ghost use Rattle.storage.specs.Triangle.{idx, tableSize, along};
 ghost use Rattle.coefficients.specs.Model.{tideNumber, outcome, modelNumber, modelOf};
 ghost use Rattle.storage.specs.Checks.{roomCheck, entryAnswer, outputsCheck};
 ghost use Rattle.coefficients.specs.Checks.{setCheck, variancesCheck, amplitudesCheck};
-ghost use Rattle.coefficients.specs.Values.{zeroAt, zeroHead, cutHead, rescaledHead, rescaledEntry, varianceOf, amplitudeOf};
+ghost use Rattle.coefficients.specs.Values.{zeroHead, cutHead, rescaledHead, rescaledEntry, varianceOf, amplitudeOf};
 
 // How the permanent tide is treated in C(2,0).
 pub enum TideSystem {
@@ -91,8 +91,8 @@ impl Head {
         if s.len() < size {
             return Model::Refused(Refusal::Space);
         }
-        tables::clear(size, c);
-        tables::clear(size, s);
+        storage::clear(size, c);
+        storage::clear(size, s);
         Model::Made(Head {
             gm,
             radius,

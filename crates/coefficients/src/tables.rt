@@ -1,4 +1,4 @@
-// Tables of coefficients along their storage: cleared, copied, and rescaled degree by degree.
+// Tables of coefficients along their storage: copied, and rescaled degree by degree.
 ghost use mathlib.Core.Path.{_≡_};
 ghost use Prim.Native.Nat.{ℕ, _+_, _≤_, _<_};
 ghost use lib.ListN.{length};
@@ -6,19 +6,7 @@ ghost use lib.Ieee.{nan};
 ghost use Rattle.storage.specs.Elements.{from};
 ghost use Rattle.storage.specs.Filled.{Filled};
 ghost use Rattle.storage.specs.Triangle.{tableSize, along};
-ghost use Rattle.coefficients.specs.Values.{zeroAt, scaledFrom, rescaledEntry};
-
-// +0 at the first `size` indices.
-pub fn clear(size: usize, list: &mut [f64])
-    requires { ⌜ size ≤ length (now list) ⌝ }
-    ensures { λ r. ⌜ Filled 0 zeroAt size (now (list .entry)) (now (list .exit)) ⌝ }
-{
-    let mut i = 0;
-    while i < size {
-        list[i] = 0.0;
-        i = i + 1;
-    }
-}
+ghost use Rattle.coefficients.specs.Values.{scaledFrom, rescaledEntry};
 
 // The first `size` numbers of a list.
 pub fn copy(size: usize, list: &[f64], out: &mut [f64])

@@ -2,3 +2,4 @@ pub mod Functionals
 pub mod Models
 pub mod Files
 pub mod Marked
+pub mod Fields

@@ -8,13 +8,13 @@ ghost use lib.ListN.{length, set};
 ghost use lib.Ieee.{nan};
 ghost use Rattle.refusal.specs.Numbers.{after, answerNumber, valueNumber, valueAfter};
 ghost use Rattle.number.specs.Float64.{_⊘_};
-ghost use Rattle.storage.specs.Elements.{from};
+ghost use Rattle.storage.specs.Elements.{zeroAt, from};
 ghost use Rattle.storage.specs.Fill.{fill};
 ghost use Rattle.storage.specs.Triangle.{idx, tableSize, along};
 ghost use Rattle.coefficients.specs.Model.{modelNumber};
 ghost use Rattle.storage.specs.Checks.{roomCheck, entryAnswer};
 ghost use Rattle.coefficients.specs.Checks.{setCheck, variancesCheck};
-ghost use Rattle.coefficients.specs.Values.{zeroAt, rescaledEntry, varianceOf};
+ghost use Rattle.coefficients.specs.Values.{rescaledEntry, varianceOf};
 ghost use Rattle.geopotential.specs.Models.{degreeAfter, cutCheck, sameCheck, amplitudesNumber, amplitudesAfter};
 
 #[no_mangle]

@@ -9,7 +9,7 @@ ghost use Rattle.number.specs.Root.{rootOf};
 ghost use Rattle.storage.specs.Elements.{from};
 ghost use Rattle.storage.specs.Filled.{Filled};
 ghost use Rattle.storage.specs.Triangle.{tableSize, along};
-ghost use Rattle.legendre.specs.Recursion.{sectoralRatio, rescale, step, pCell};
+ghost use Rattle.legendre.specs.Recursion.{sectoralRatio, pmm, rescale, step, pCell};
 ghost use Rattle.legendre.specs.Rows.{nextRow, scaledRow};
 
 // u^m / 1e-280 for the orders m up to nmax.
@@ -45,6 +45,21 @@ pub fn next_sectoral(m: usize, pmm: f64) -> f64
     ensures { λ r. ⌜ r ≡ pmm ⊗ rootOf (sectoralRatio m) ⌝ }
 {
     pmm * number::root(sectoral_ratio(m))
+}
+
+// The sectoral numbers of q for the orders up to nmax.
+pub fn sectorals(nmax: usize, d: &mut [f64])
+    requires { ⌜ nmax ≤ 2700 ⌝ ∗ ⌜ nmax < length (now d) ⌝ }
+    ensures { λ _. ⌜ Filled 0 pmm (nmax + 1) (now (d .entry)) (now (d .exit)) ⌝ }
+{
+    let count = nmax + 1;
+    let mut sectoral = 1e-280;
+    let mut m = 0;
+    while m < count {
+        d[m] = sectoral;
+        m = m + 1;
+        sectoral = next_sectoral(m, sectoral);
+    }
 }
 
 // The second number of a column, before which there is its sectoral number alone. The product by 0 stays: an infinite b gives NaN.

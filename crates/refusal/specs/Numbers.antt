@@ -53,6 +53,11 @@ pub refuse-no : {ground : Bool} (e : Refusal) (other : Answer) → ground ≡ fa
 unfolding refuse
 refuse-no e other h = rw h refl
 
+-- a number, where the checks before it are passed
+abbrev pub valueIf : Answer → Float → Number
+valueIf Done x = Value x
+valueIf (Refused e) x = NoValue e
+
 -- the same for a call that works out one number
 unfoldable pub refuseValue : Bool → Refusal → Number → Number
 refuseValue ground e other = cond ground (NoValue e) other

@@ -5,6 +5,7 @@ pub mod Integers
 pub mod Units
 -- the definitions
 pub mod Sums
+pub mod SumSteps
 pub mod Margins
 -- the error of one operation
 pub mod RoundingError

@@ -1,9 +1,14 @@
--- A list that is read as a table: its elements as a function of the index. Assumes nothing.
+-- Lists as functions of the index: a list that is read as a table, and what a list is cleared to. Assumes nothing.
 use mathlib.Core.Path.{_≡_, ap}
 use Prim.Native.Nat.{ℕ, _+_}
 use native.Mathlib.Nat.{zero-add}
 use mathlib.Core.List.{List}
 use lib.ListN.{getD}
+use lib.Ieee.{Float, binary64, ofBits}
+
+-- +0, at every index
+abbrev pub zeroAt : ℕ → Float
+zeroAt k = ofBits binary64 0
 
 module _ {A : Type 0} where
   -- the elements of l from index at on, with z past its end

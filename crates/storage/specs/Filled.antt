@@ -1,8 +1,9 @@
 -- `fill` as a loop's invariant has it: a record, so that a law finds its arguments by itself, with the length beside the equation, where
 -- `omega` finds it. Assumes nothing.
 use mathlib.Core.Path.{_≡_, refl, sym, ap, subst, _∙_}
-use Prim.Native.Nat.{ℕ, _+_, _≤_, _<_}
-use native.Mathlib.Nat.{le-refl, add-zero}
+use Prim.Native.Nat.{ℕ, _+_, _-_, _≤_, _<_}
+use native.Mathlib.Nat.{le-refl, add-zero, add-sub-of-le}
+use native.Mathlib.Omega.{arith}
 use mathlib.Core.List.{List, _++_}
 use lib.ListN.{length, getD, set, take, drop, length-set}
 use Rattle.storage.specs.Fill.{fill, length-fill, fill-none, fill-more, fill-in, fill-before, fill-after, fill-join, fill-again, fill-same, fill-part}
@@ -57,6 +58,23 @@ module _ {A : Type 0} {at k : ℕ} {F : ℕ → A} {d l : List A} where
     is = s .is ∙ ap (λ (x : List A). fill at G j x) (r .is) ∙ fill-again at F G k j d h;
     long = s .long ∙ r .long;
   }
+
+  -- k elements, and then the first j of them written over: H is the new ones, and the old ones past them
+  pub filled-front : {j : ℕ} {G : ℕ → A} {l′ : List A} (H : ℕ → A) → Filled at F k d l → Filled at G j l l′ → j ≤ k → ((i : ℕ) → i < j → G i ≡ H i)
+      → ((i : ℕ) → j ≤ i → i < k → F i ≡ H i) → Filled at H k d l′
+  filled-front {j} {G} {l′} H r s h new old =
+      let rest : ℕ → A = λ i. F (j + i) in
+      let e : j + (k - j) ≡ k = add-sub-of-le h in
+      let split : fill at F (j + (k - j)) d ≡ fill at F j (fill (at + j) rest (k - j) d) =
+      sym (fill-join at F rest j (k - j) d (λ i b. refl)) ∙ fill-swap at (at + j) F rest j (k - j) d (le-refl (at + j)) in
+      let over : fill at G j (fill at F (j + (k - j)) d) ≡ fill (at + j) rest (k - j) (fill at G j d) =
+      ap (fill at G j) split
+      ∙ fill-again at F G j j (fill (at + j) rest (k - j) d) (le-refl j)
+      ∙ sym (fill-swap at (at + j) G rest j (k - j) d (le-refl (at + j))) in
+      let whole : fill (at + j) rest (k - j) (fill at G j d) ≡ fill at H (j + (k - j)) d =
+      ap (fill (at + j) rest (k - j)) (fill-same at G H j d new)
+      ∙ fill-join at H rest j (k - j) d (λ i b. sym (old (j + i) (omega arith) (omega arith))) in
+      filled at H k d (s .is ∙ ap (fill at G j) (r .is) ∙ rw (← e) (over ∙ whole))
 
   -- k elements, and then others past them: the others count as part of the list below
   pub filled-under : {at′ j : ℕ} {G : ℕ → A} {l′ : List A} → Filled at F k d l → Filled at′ G j l l′ → at + k ≤ at′ → Filled at F k (fill at′ G j d) l′

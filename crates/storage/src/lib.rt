@@ -3,8 +3,11 @@ use refusal::Answer;
 use refusal::Number;
 use refusal::Refusal;
 ghost use mathlib.Core.Path.{_≡_};
-ghost use Prim.Native.Nat.{min};
+ghost use Prim.Native.Nat.{ℕ, _≤_, min};
+ghost use lib.ListN.{length};
 ghost use Rattle.storage.specs.Answers.{sizeOf, placeOf};
+ghost use Rattle.storage.specs.Elements.{zeroAt};
+ghost use Rattle.storage.specs.Filled.{Filled};
 ghost use Rattle.storage.specs.Checks.{tablesCheck, outputsCheck, entryAnswer};
 
 // The highest degree of a table.
@@ -55,6 +58,18 @@ pub fn entry(nmax: usize, table: &[f64], n: usize, m: usize) -> Number
     match place(nmax, n, m) {
         Index::Refused(e) => Number::Refused(e),
         Index::At(k) => Number::Value(table[k]),
+    }
+}
+
+// +0 at the first `size` indices.
+pub fn clear(size: usize, list: &mut [f64])
+    requires { ⌜ size ≤ length (now list) ⌝ }
+    ensures { λ r. ⌜ Filled 0 zeroAt size (now (list .entry)) (now (list .exit)) ⌝ }
+{
+    let mut i = 0;
+    while i < size {
+        list[i] = 0.0;
+        i = i + 1;
     }
 }
 

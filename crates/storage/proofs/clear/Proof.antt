@@ -1,11 +1,11 @@
--- `tables::clear` meets its contract: so many numbers from the front are +0. Assumes nothing.
-use Rattle.coefficients.specs.Values.{zeroAt}
+-- `clear` meets its contract: so many numbers from the front are +0. Assumes nothing.
+use Rattle.storage.specs.Elements.{zeroAt}
 use Rattle.storage.specs.Filled.{Filled, filled-none, filled-more, filled-to}
 use native.Mathlib.Omega.{arith}
 use mathlib.Core.Path.{refl}
 use Prim.Native.Nat.{_-_, _≤_}
-use Rattle.coefficients.proofs.tables.clear.Statement.{statement}
-use Rattle.coefficients.proofs.tables.clear.Tie as tie
+use Rattle.storage.proofs.clear.Statement.{statement}
+use Rattle.storage.proofs.clear.Tie as tie
 
 abbrev Inv-loop : tie.InvT-loop
 Inv-loop size list₀ i₀ list i = (i ≤ size) × Filled 0 zeroAt i list₀ list

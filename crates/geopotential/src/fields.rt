@@ -1,0 +1,48 @@
+// The calls that turn a field into values: averages over basins.
+use coefficients::Head;
+use coefficients::TideSystem;
+ghost use mathlib.Core.Path.{_≡_};
+ghost use Rattle.geopotential.specs.Fields.{basinNumber, basinAfter};
+
+// A functional above 5 is refused by 255, before every check.
+#[no_mangle]
+pub extern "C" fn geopotential_basin_average(
+    gm: f64,
+    radius: f64,
+    nmax: usize,
+    c: &[f64],
+    s: &[f64],
+    kmax: usize,
+    kc: &[f64],
+    ks: &[f64],
+    functional: u32,
+    love: &[f64],
+    r: f64,
+    value: &mut f64,
+) -> u32
+    ensures { λ x. ⌜ x ≡ basinNumber gm radius nmax (now (c .entry)) (now (s .entry)) kmax (now (kc .entry)) (now (ks .entry))
+        functional (now (love .entry)) r ⌝ }
+    ensures { λ x. ⌜ now (value .exit) ≡ basinAfter gm radius nmax (now (c .entry)) (now (s .entry)) kmax (now (kc .entry)) (now (ks .entry))
+        functional (now (love .entry)) r (now (value .entry)) ⌝ }
+{
+    if functional > 5 {
+        return 255;
+    }
+    let f = crate::functionals::functional_of(functional);
+    let field = Head {
+        gm,
+        radius,
+        tide_system: TideSystem::Unknown,
+        nmax,
+    };
+    let kernel = Head {
+        gm,
+        radius,
+        tide_system: TideSystem::Unknown,
+        nmax: kmax,
+    };
+    refusal::hand_on(
+        slepian::basin_average(field, c, s, kernel, kc, ks, f, love, r),
+        value,
+    )
+}
