@@ -15,30 +15,6 @@ fn one_if(b: bool) -> usize
     if b { 1 } else { 0 }
 }
 
-// The numbers of bit patterns from index `at` on.
-fn load(words: &[u64], at: usize, out: &mut [f64])
-    requires { ⌜ at + length (now out) ≤ length (now words) ⌝ }
-{
-    let mut i = 0;
-    while i < out.len() {
-        out[i] = number::number_of_bits(words[at + i]);
-        i += 1;
-    }
-}
-
-// How many numbers of a list have the bit patterns from index `at` on.
-fn same(list: &[f64], words: &[u64], at: usize) -> usize
-    requires { ⌜ at + length (now list) ≤ length (now words) ⌝ }
-{
-    let mut right: usize = 0;
-    let mut i = 0;
-    while i < list.len() {
-        right += one_if(number::bits_of_number(list[i]) == words[at + i]);
-        i += 1;
-    }
-    right
-}
-
 fn print(name: &[u8], right: usize, all: usize) {
     io::write_all(1, name);
     io::print_decimal(1, right as u64);
@@ -52,8 +28,8 @@ fn print_new() {
     let mut b = [0.0; 15];
     match legendre::new(4, &mut a, &mut b) {
         Answer::Done => {
-            print(b"new a ", same(&a, &answers::A, 0), 15);
-            print(b"new b ", same(&b, &answers::B, 0), 15);
+            print(b"new a ", replay::same(&a, &answers::A, 0), 15);
+            print(b"new b ", replay::same(&b, &answers::B, 0), 15);
         }
         Answer::Refused(_) => print(b"new refused ", 0, 30),
     }
@@ -71,8 +47,8 @@ fn entry(table: &[f64; 15], n: usize, m: usize, word: u64) -> usize {
 fn print_at(a: &[u64; 15], b: &[u64; 15], words: &[u64; 32]) {
     let mut la = [0.0; 15];
     let mut lb = [0.0; 15];
-    load(a, 0, &mut la);
-    load(b, 0, &mut lb);
+    replay::load(a, 0, &mut la);
+    replay::load(b, 0, &mut lb);
     let latitude = Latitude {
         t: number::number_of_bits(words[0]),
         u: number::number_of_bits(words[1]),
@@ -80,11 +56,11 @@ fn print_at(a: &[u64; 15], b: &[u64; 15], words: &[u64; 32]) {
     let mut p = [0.0; 15];
     let mut dp = [0.0; 15];
     match legendre::compute(4, latitude, &la, &lb, &mut p) {
-        Answer::Done => print(b"compute ", same(&p, words, 2), 15),
+        Answer::Done => print(b"compute ", replay::same(&p, words, 2), 15),
         Answer::Refused(_) => print(b"compute refused ", 0, 15),
     }
     match legendre::compute_with_derivative(4, latitude, &la, &lb, &mut p, &mut dp) {
-        Answer::Done => print(b"derivative ", same(&dp, words, 17), 15),
+        Answer::Done => print(b"derivative ", replay::same(&dp, words, 17), 15),
         Answer::Refused(_) => print(b"derivative refused ", 0, 15),
     }
     print(b"entry ", entry(&p, 3, 2, words[10]), 1);
@@ -96,11 +72,11 @@ fn print_rule(words: &[u64], guesses: &mut [f64], x: &mut [f64], w: &mut [f64])
 {
     let half = guesses.len();
     let n = x.len();
-    load(words, 0, guesses);
+    replay::load(words, 0, guesses);
     match quadrature::gauss_legendre(n, guesses, x, w) {
         Answer::Done => {
-            print(b"nodes ", same(x, words, half), n);
-            print(b"weights ", same(w, words, half + n), n);
+            print(b"nodes ", replay::same(x, words, half), n);
+            print(b"weights ", replay::same(w, words, half + n), n);
         }
         Answer::Refused(_) => print(b"gauss_legendre refused ", 0, n),
     }
