@@ -155,4 +155,48 @@ unsafe extern "C" {
         w: *mut f64,
         w_len: usize,
     ) -> u32;
+
+    /// A grid: latitudes are pairs t, u; `trig` has the cosine and the sine of each order of each longitude.
+    pub fn geopotential_grid(
+        gm: f64,
+        radius: f64,
+        nmax: usize,
+        c: *const f64,
+        c_len: usize,
+        s: *const f64,
+        s_len: usize,
+        functional: u32,
+        love: *const f64,
+        love_len: usize,
+        r: f64,
+        rows: usize,
+        latitudes: *const f64,
+        latitudes_len: usize,
+        longitudes: usize,
+        trig: *const f64,
+        trig_len: usize,
+        work: *mut f64,
+        work_len: usize,
+        out: *mut f64,
+        out_len: usize,
+    ) -> u32;
+    pub fn geopotential_basin_average(
+        gm: f64,
+        radius: f64,
+        nmax: usize,
+        c: *const f64,
+        c_len: usize,
+        s: *const f64,
+        s_len: usize,
+        kmax: usize,
+        kc: *const f64,
+        kc_len: usize,
+        ks: *const f64,
+        ks_len: usize,
+        functional: u32,
+        love: *const f64,
+        love_len: usize,
+        r: f64,
+        value: *mut f64,
+    ) -> u32;
 }

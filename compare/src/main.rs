@@ -8,11 +8,14 @@ mod functional;
 mod guarded;
 mod legendre;
 mod lent;
+mod margins;
 mod model_file;
 mod number;
 mod oracle_check;
 mod refusal;
 mod sizes;
+mod slepian;
+mod synthesis;
 mod table_entry;
 mod tally;
 mod timing;
@@ -27,7 +30,8 @@ usage: compare [--seed NUMBER] [--quick] [SUBJECT...]   same bits as the oracle,
        compare oracle                                   only check that the oracle itself works
        compare bench [SUBJECT...]                       ours, the Rust's, their ratio
        compare replay SUBJECT FILE                      write the oracle's answers as Rattle constants
-subjects: number, functional, coefficients, model_file, legendre";
+       compare margins FILE [COUNT [SEED]]              write values and their sums' numbers, for margins.py
+subjects: number, functional, coefficients, model_file, legendre, synthesis, slepian";
 
 /// One crate of the library: what can be done with it here.
 struct Subject {
@@ -48,6 +52,8 @@ const SUBJECTS: &[Subject] = &[
     },
     Subject { name: "model_file", compare: model_file::compare, bench: model_file::bench::bench, replay: model_file::replay::replay },
     Subject { name: "legendre", compare: legendre::compare, bench: legendre::bench::bench, replay: legendre::replay::replay },
+    Subject { name: "synthesis", compare: synthesis::compare, bench: synthesis::bench::bench, replay: synthesis::replay::replay },
+    Subject { name: "slepian", compare: slepian::compare, bench: slepian::bench::bench, replay: slepian::replay::replay },
 ];
 
 fn subject(name: &str) -> Result<&'static Subject, String> {
@@ -102,7 +108,12 @@ fn dispatch(arguments: &[&str]) -> Result<bool, String> {
             let text = (subject(name)?.replay)();
             std::fs::write(file, text).map_err(|e| format!("{file}: {e}"))?;
         }
-        ["replay", ..] => return Err(USAGE.to_string()),
+        ["margins", file, rest @ ..] => {
+            let count = rest.first().map_or(Ok(20_000), |text| text.parse().map_err(|e| format!("count {text}: {e}")))?;
+            let seed = rest.get(1).map_or(Ok(1), |text| parse_seed(text))?;
+            std::fs::write(file, margins::lines(seed, count)).map_err(|e| format!("{file}: {e}"))?;
+        }
+        ["replay" | "margins", ..] => return Err(USAGE.to_string()),
         _ => return compare(arguments),
     }
     Ok(true)

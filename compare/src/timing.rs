@@ -33,6 +33,21 @@ pub fn race<A>(name: &str, calls: usize, ours: impl FnMut() -> A, rust: impl FnM
     println!("{name:<36}{:>12.2}{:>12.2}{:>12.2}", ours / calls as f64, rust / calls as f64, ours / rust);
 }
 
+/// Time two pieces of work, each without a part of it that is timed by itself in the same rounds, and print the time of a call.
+pub fn race_without<A>(
+    name: &str,
+    calls: usize,
+    ours: impl FnMut() -> A,
+    rust: impl FnMut() -> A,
+    our_part: impl FnMut() -> A,
+    rust_part: impl FnMut() -> A,
+) {
+    let (ours, rust) = medians(ours, rust);
+    let (our_part, rust_part) = medians(our_part, rust_part);
+    let (ours, rust) = (ours - our_part, rust - rust_part);
+    println!("{name:<36}{:>12.2}{:>12.2}{:>12.2}", ours / calls as f64, rust / calls as f64, ours / rust);
+}
+
 /// Time two pieces of work on so many bytes and print how many go through in a nanosecond; the ratio is that of the times.
 pub fn race_bytes<A>(name: &str, bytes: usize, ours: impl FnMut() -> A, rust: impl FnMut() -> A) {
     let (ours, rust) = medians(ours, rust);

@@ -1,7 +1,7 @@
 //! The crate `coefficients` against the oracle's `Coefficients`: what is written, what is left alone, and document 01's refusals.
 
 pub mod bench;
-mod fields;
+pub mod fields;
 pub mod replay;
 
 use oracle::Coefficients;

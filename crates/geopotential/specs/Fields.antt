@@ -81,9 +81,9 @@ module _ (gm radius r : Float) (k nmax : ℕ) (c s love : List Float) (rows : �
   unfolding gridNumber gridAfter
   grid-unknown h = (simp (lt-ltb 5 k h), (simp (lt-ltb 5 k h), refl))
 
-  pub grid-known : {f : Functional} {a : Answer} {x : ℕ} {w o : List Float} → k ≤ 5 → f ≡ functionalOf k
+  pub grid-known : {f : Functional} {a : Answer} {x : ℕ} {o : List Float} (w : List Float) → k ≤ 5 → f ≡ functionalOf k
       → a ≡ gridAnswer f nmax c s love rows lats longitudes trig work out → x ≡ answerNumber a
       → o ≡ after a (fill 0 (byRows (gridCell (factorOf f love gm radius r) lats c s trig nmax) longitudes) (rows * longitudes) out) out
       → behind a (workSize nmax) w ≡ behind a (workSize nmax) work → Kept x w o
   unfolding gridNumber gridAfter gridKeeps
-  grid-known h p q u v z = (u ∙ simp (le-ltb 5 k h, ← p, ← q), (v ∙ simp (le-ltb 5 k h, ← p, ← q), simp (le-ltb 5 k h, ← p, ← q) z))
+  grid-known w h p q u v z = (u ∙ simp (le-ltb 5 k h, ← p, ← q), (v ∙ simp (le-ltb 5 k h, ← p, ← q), simp (le-ltb 5 k h, ← p, ← q) z))

@@ -1,0 +1,39 @@
+//! The oracle's averages of fields of degree 3 over kernels of degree 2.
+
+use oracle::Coefficients;
+use oracle::slepian::basin_average;
+
+use crate::constants::{array, number};
+use crate::functional::functional;
+
+const LOVE: [f64; 4] = [0.0, 0.021, -0.303, -0.194];
+
+/// Fields of degree 3 and kernels of degree 2, one with special numbers each.
+fn example(degree: usize, special: bool) -> Coefficients {
+    let mut field = Coefficients::zeros(3.986004415e14, 6378136.3, degree);
+    let cells = field.c.iter_mut().chain(&mut field.s).enumerate();
+    cells.for_each(|(i, cell)| *cell = (i as f64 + 0.7).sin() / (i as f64 + 1.0));
+    if special {
+        (field.c[1], field.s[2], field.c[3]) = (-0.0, f64::from_bits(1), 1e300);
+    }
+    field
+}
+
+pub fn replay() -> String {
+    let mut text = String::from("// The oracle's answers for the crate slepian, numbers as bit patterns.\n");
+    text += "// Written by `compare/run replay slepian FILE` (see compare/README.md), never by hand.\n";
+    let mut list = |comment: &str, name: &str, list: &[f64]| {
+        text += &array(comment, name, &list.iter().map(|&x| number(x)).collect::<Vec<_>>());
+    };
+    list("the Love numbers", "LOVE", &LOVE);
+    for (prefix, special) in [("", false), ("SPECIAL_", true)] {
+        let (field, kernel) = (example(3, special), example(2, special));
+        list("the c of a field of degree 3, gm 3.986004415e14, radius 6378136.3", &format!("{prefix}C"), &field.c);
+        list("its s", &format!("{prefix}S"), &field.s);
+        list("the c of a kernel of degree 2", &format!("{prefix}KERNEL_C"), &kernel.c);
+        list("its s", &format!("{prefix}KERNEL_S"), &kernel.s);
+        let averages: Vec<f64> = (0..6).map(|k| basin_average(&field, &kernel, &functional(k, &LOVE), 6378200.0)).collect();
+        list("the averages of the six functionals at r 6378200", &format!("{prefix}AVERAGES"), &averages);
+    }
+    text
+}
