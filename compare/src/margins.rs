@@ -46,26 +46,42 @@ fn head(cases: &mut Cases) -> [f64; 3] {
     }
 }
 
+/// The degree of a sum, its functional, and what the functional takes: gm, radius, r, the Love numbers.
+struct Setting {
+    nmax: usize,
+    functional: u32,
+    head: [f64; 3],
+    love: Vec<f64>,
+}
+
+fn setting(cases: &mut Cases) -> Setting {
+    let nmax = cases.below(9) as usize;
+    let (functional, head) = (cases.below(6) as u32, head(cases));
+    Setting { nmax, functional, head, love: (0..=nmax).map(|_| cases.fraction() - 0.5).collect() }
+}
+
+/// So many numbers of at most 1 in size.
+fn draw(cases: &mut Cases, count: usize) -> Vec<f64> {
+    (0..count).map(|_| at_most_one(cases)).collect()
+}
+
 /// The factors of the degrees up to N, as the call answers them.
-fn factors(functional: u32, love: &[f64], nmax: usize, [gm, radius, r]: [f64; 3]) -> Vec<f64> {
+fn factors(Setting { nmax, functional, head: [gm, radius, r], love }: &Setting) -> Vec<f64> {
     let factor = |n| {
         let mut value = 0.0;
-        let refusal = unsafe { geopotential_factor(functional, love.as_ptr(), love.len(), n, gm, radius, r, &mut value) };
+        let refusal = unsafe { geopotential_factor(*functional, love.as_ptr(), love.len(), n, *gm, *radius, *r, &mut value) };
         assert_eq!(refusal, 0);
         value
     };
-    (0..=nmax).map(factor).collect()
+    (0..=*nmax).map(factor).collect()
 }
 
 /// One value of a grid: its factors, P, c, s, cosines, sines, and the value.
 fn grid(cases: &mut Cases) -> String {
-    let nmax = cases.below(9) as usize;
+    let setting = setting(cases);
+    let Setting { nmax, functional, head: [gm, radius, r], ref love } = setting;
     let (size, order) = (table(nmax), nmax + 1);
-    let [gm, radius, r] = head(cases);
-    let functional = cases.below(6) as u32;
-    let love: Vec<f64> = (0..order).map(|_| cases.fraction() - 0.5).collect();
-    let mut draw = |count: usize| -> Vec<f64> { (0..count).map(|_| at_most_one(cases)).collect() };
-    let (c, s, trig) = (draw(size), draw(size), draw(2 * order));
+    let (c, s, trig) = (draw(cases, size), draw(cases, size), draw(cases, 2 * order));
     let (t, u) = match cases.below(3) {
         0 => (cases.number(), cases.number()),
         1 => (cases.near_one(), cases.near_one()),
@@ -104,7 +120,7 @@ fn grid(cases: &mut Cases) -> String {
     };
     assert_eq!(refusals, [0; 3]);
     let mut sum = Sum::new("grid", nmax);
-    sum.add(&factors(functional, &love, nmax, [gm, radius, r]));
+    sum.add(&factors(&setting));
     [&p, &c, &s].iter().for_each(|list| sum.add(list));
     sum.add(&trig.iter().step_by(2).copied().collect::<Vec<_>>());
     sum.add(&trig.iter().skip(1).step_by(2).copied().collect::<Vec<_>>());
@@ -114,13 +130,10 @@ fn grid(cases: &mut Cases) -> String {
 
 /// One average: its factors, c, s, the kernel's c and s, and the value.
 fn average(cases: &mut Cases) -> String {
-    let nmax = cases.below(9) as usize;
+    let setting = setting(cases);
+    let Setting { nmax, functional, head: [gm, radius, r], ref love } = setting;
     let (size, order) = (table(nmax), nmax + 1);
-    let [gm, radius, r] = head(cases);
-    let functional = cases.below(6) as u32;
-    let love: Vec<f64> = (0..order).map(|_| cases.fraction() - 0.5).collect();
-    let mut draw = |count: usize| -> Vec<f64> { (0..count).map(|_| at_most_one(cases)).collect() };
-    let (c, s, kc, ks) = (draw(size), draw(size), draw(size), draw(size));
+    let [c, s, kc, ks] = [(); 4].map(|()| draw(cases, size));
     let mut value = 0.0;
     let refusal = unsafe {
         let lists = [&c, &s, &kc, &ks].map(|list| list.as_ptr());
@@ -146,7 +159,7 @@ fn average(cases: &mut Cases) -> String {
     };
     assert_eq!(refusal, 0);
     let mut sum = Sum::new("average", nmax);
-    sum.add(&factors(functional, &love, nmax, [gm, radius, r]));
+    sum.add(&factors(&setting));
     [&c, &s, &kc, &ks].iter().for_each(|list| sum.add(list));
     sum.add(&[value]);
     sum.text

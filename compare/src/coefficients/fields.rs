@@ -30,6 +30,14 @@ pub fn field(cases: &mut Cases, nmax: usize) -> Coefficients {
     field
 }
 
+/// A field with ordinary numbers, the same every time: for replays.
+pub fn fixed(nmax: usize) -> Coefficients {
+    let mut field = Coefficients::zeros(3.986004415e14, 6378136.3, nmax);
+    let cells = field.c.iter_mut().chain(&mut field.s).enumerate();
+    cells.for_each(|(i, cell)| *cell = (i as f64 + 0.7).sin() / (i as f64 + 1.0));
+    field
+}
+
 /// What one call is tried with.
 pub struct Plan<F> {
     /// How many random fields of degrees up to 40.

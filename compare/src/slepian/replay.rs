@@ -3,6 +3,7 @@
 use oracle::Coefficients;
 use oracle::slepian::basin_average;
 
+use crate::coefficients::fields::fixed;
 use crate::constants::{array, number};
 use crate::functional::functional;
 
@@ -10,9 +11,7 @@ const LOVE: [f64; 4] = [0.0, 0.021, -0.303, -0.194];
 
 /// Fields of degree 3 and kernels of degree 2, one with special numbers each.
 fn example(degree: usize, special: bool) -> Coefficients {
-    let mut field = Coefficients::zeros(3.986004415e14, 6378136.3, degree);
-    let cells = field.c.iter_mut().chain(&mut field.s).enumerate();
-    cells.for_each(|(i, cell)| *cell = (i as f64 + 0.7).sin() / (i as f64 + 1.0));
+    let mut field = fixed(degree);
     if special {
         (field.c[1], field.s[2], field.c[3]) = (-0.0, f64::from_bits(1), 1e300);
     }

@@ -2,6 +2,7 @@
 
 use oracle::Coefficients;
 
+use crate::coefficients::fields::fixed;
 use crate::constants::{array, number};
 use crate::functional::functional;
 use crate::lent::{orders, pair};
@@ -10,9 +11,7 @@ const LOVE: [f64; 4] = [0.0, 0.021, -0.303, -0.194];
 const NMAX: usize = 3;
 
 fn example(special: bool) -> Coefficients {
-    let mut field = Coefficients::zeros(3.986004415e14, 6378136.3, NMAX);
-    let cells = field.c.iter_mut().chain(&mut field.s).enumerate();
-    cells.for_each(|(i, cell)| *cell = (i as f64 + 0.7).sin() / (i as f64 + 1.0));
+    let mut field = fixed(NMAX);
     if special {
         (field.c[1], field.s[2], field.c[3], field.s[4]) = (-0.0, f64::from_bits(1), 1e300, f64::INFINITY);
     }
