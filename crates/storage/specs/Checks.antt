@@ -71,7 +71,7 @@ pub both : (a b : Answer) → Done ≡ a andThen b → (Done ≡ a) × (Done ≡
 both Done b h = (refl, h)
 both (Refused e) b h = absurd (let z : _≡_ {A = ℕ} 0 1 = cc in omega arith)
 
-same : (a b : ℕ) → T (not (not (eqb a b))) → a ≡ b
+pub same : (a b : ℕ) → T (not (not (eqb a b))) → a ≡ b
 same a b h = eqb→eq a b (go (eqb a b) h)
   where
     go : (x : Bool) → T (not (not x)) → T x

@@ -2,14 +2,14 @@
 use mathlib.Core.Path.{_≡_, refl, sym, ap, _∙_}
 use mathlib.Core.Bool.{Bool, true, false, not}
 use Prim.Native.Nat.{ℕ, _+_, _*_, _≤_, _<_}
-use lib.Dec.{T, ltb, eqb, eqb→eq, nltb→le}
+use lib.Dec.{T, ltb, eqb, nltb→le}
 use borrow.Author.Tests.{lt-ltb, le-ltb, eq-eqb, ne-eqb}
 use Rattle.refusal.specs.Numbers.{refuse, refuse-yes, refuse-no}
 use Rattle.refusal.specs.declared.Answer.{Answer}
 use Rattle.refusal.specs.declared.Answer.the-variants.{Done, Refused}
 use Rattle.refusal.specs.declared.Refusal.{Refusal}
 use Rattle.refusal.specs.declared.Refusal.the-variants.{Size, Length, Love, Space}
-use Rattle.storage.specs.Checks.{_andThen_, tablesCheck, Tables, tables-passed, both, past, refused-then, done-then}
+use Rattle.storage.specs.Checks.{_andThen_, tablesCheck, Tables, tables-passed, both, past, same, refused-then, done-then}
 use Rattle.synthesis.specs.Grid.{gridCheck, workSize}
 
 -- what passed checks tell: a record, whose fields `omega` finds
@@ -21,13 +21,6 @@ pub record Accepted (nmax clen slen rows lats longitudes trig work out : ℕ) : 
   pub orders : trig ≡ longitudes * (nmax + nmax + 2)
   pub room-work : workSize nmax ≤ work
   pub room-out : rows * longitudes ≤ out
-
-same : (a b : ℕ) → T (not (not (eqb a b))) → a ≡ b
-same a b h = eqb→eq a b (go (eqb a b) h)
-  where
-    go : (x : Bool) → T (not (not x)) → T x
-    go true h = tt
-    go false h = h
 
 different : {a b : ℕ} → (a ≡ b → ⊥) → not (eqb a b) ≡ true
 different {a} {b} h = ap not (ne-eqb a b h)

@@ -12,7 +12,7 @@ use Rattle.refusal.specs.declared.Refusal.the-variants.{Size, Length, Love, Spa
 use Rattle.storage.specs.Checks.{_andThen_, tablesCheck}
 use Rattle.storage.specs.Triangle.{tableSize, cells, along}
 use Rattle.legendre.specs.Recursion.{aCell, bCell, pCell}
-use Rattle.rounding.specs.Margins.{gridValue, AtMostOne, TableAtMostOne, LineAtMostOne}
+use Rattle.rounding.specs.Margins.{gridValue, TableAtMostOne, LineAtMostOne}
 
 -- the sine t and the cosine u of the latitude of row i
 unfoldable pub rowSine : List Float → ℕ → Float
