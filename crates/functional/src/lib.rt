@@ -2,9 +2,10 @@
 use refusal::Number;
 use refusal::Refusal;
 ghost use mathlib.Core.Path.{_≡_};
-ghost use Prim.Native.Nat.{ℕ, _≤_};
+ghost use Prim.Native.Nat.{ℕ, _+_, _≤_, _<_};
 ghost use lib.ListN.{length, getD};
 ghost use lib.Ieee.{nan};
+ghost use Rattle.storage.specs.Filled.{Filled};
 ghost use Rattle.functional.specs.Factor.{factorOf, lacksLove, factorAnswer};
 
 // Mean density of the Earth used by Wahr et al. (1998), kg/m³.
@@ -58,6 +59,18 @@ impl Functional {
                 radius * RHO_EARTH / (3.0 * RHO_WATER) * (2.0 * nf + 1.0)
                     / (1.0 + love_number(love, n))
             }
+        }
+    }
+
+    // The factors of the degrees up to nmax.
+    pub fn factors(self, love: &[f64], nmax: usize, gm: f64, radius: f64, r: f64, out: &mut [f64])
+        requires { ⌜ nmax ≤ 2700 ⌝ ∗ ⌜ nmax < length (now out) ⌝ }
+        ensures { λ _. ⌜ Filled 0 (factorOf self (now (love .entry)) gm radius r) (nmax + 1) (now (out .entry)) (now (out .exit)) ⌝ }
+    {
+        let mut n = 0;
+        while n <= nmax {
+            out[n] = self.degree_factor(love, n, gm, radius, r);
+            n = n + 1;
         }
     }
 

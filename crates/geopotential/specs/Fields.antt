@@ -7,17 +7,17 @@ use lib.Dec.{ltb}
 use lib.ListN.{length}
 use lib.Ieee.{Float, nan}
 use borrow.Author.Tests.{lt-ltb, le-ltb}
-use Rattle.refusal.specs.Numbers.{after, answerNumber, valueIf, valueNumber, valueAfter}
+use Rattle.refusal.specs.Numbers.{after, behind, answerNumber, valueIf, valueNumber, valueAfter}
 use Rattle.refusal.specs.declared.Answer.{Answer}
 use Rattle.refusal.specs.declared.Number.{Number}
 use Rattle.storage.specs.Fill.{fill}
+use Rattle.storage.specs.Rectangle.{byRows}
 use Rattle.storage.specs.Triangle.{cells}
 use Rattle.functional.specs.Factor.{factorOf, lacksLove}
 use Rattle.functional.specs.declared.Functional.{Functional}
 use Rattle.rounding.specs.Margins.{average}
 use Rattle.slepian.specs.Average.{averageCheck}
-use Rattle.synthesis.specs.Grid.{gridCell, byRows, workSize, gridCheck}
-use Rattle.synthesis.specs.Promise.{behind}
+use Rattle.synthesis.specs.Grid.{gridCell, workSize, gridCheck}
 use Rattle.geopotential.specs.Functionals.{functionalOf}
 
 -- what `basin_average` answers

@@ -1,6 +1,7 @@
 // Fully normalized associated Legendre functions (4π normalization, no Condon–Shortley phase), by the modified forward column recursion of
 // Holmes & Featherstone (2002): it runs on P(n, m) / u^m, scaled by 1e-280 so that it cannot overflow, and the power of the cosine u comes last.
 pub mod derivative;
+pub mod directions;
 pub mod recursion;
 pub mod rows;
 

@@ -6,6 +6,7 @@ ghost use lib.ListN.{length};
 ghost use Rattle.storage.specs.Filled.{Filled};
 ghost use Rattle.storage.specs.Triangle.{tableSize, along};
 ghost use Rattle.legendre.specs.Recursion.{aCell, bCell};
+ghost use Rattle.legendre.specs.Tables.{withTables};
 
 // About 1/√k at k = 1 .. last.
 fn inverse_roots(last: usize, out: &mut [f64])
@@ -135,4 +136,13 @@ pub fn b_table(nmax: usize, b: &mut [f64])
         let mut ratio = [0.0; 5401];
         b_rows(nmax, &mut ratio, b);
     }
+}
+
+// The tables a and b of the recursion, one after the other at the front of the working list.
+pub fn tables(nmax: usize, total: usize, work: &mut [f64])
+    requires { ⌜ nmax ≤ 2700 ⌝ ∗ ⌜ total ≡ tableSize nmax ⌝ ∗ ⌜ total + total ≤ length (now work) ⌝ }
+    ensures { λ _. ⌜ now (work .exit) ≡ withTables nmax (now (work .entry)) ⌝ }
+{
+    a_table(nmax, work);
+    b_table(nmax, &mut work[total..]);
 }

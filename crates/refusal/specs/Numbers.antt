@@ -2,6 +2,8 @@
 use mathlib.Core.Path.{_≡_, refl}
 use mathlib.Core.Bool.{Bool, true, false, cond}
 use Prim.Native.Nat.{ℕ}
+use mathlib.Core.List.{List}
+use lib.ListN.{drop}
 use lib.Ieee.{Float}
 use Rattle.refusal.specs.declared.Answer.{Answer}
 use Rattle.refusal.specs.declared.Answer.the-variants.{Done, Refused}
@@ -40,6 +42,11 @@ valueAfter (NoValue e) old = old
 abbrev pub after {ℓ} : {A : Type ℓ} → Answer → A → A → A
 after Done made old = made
 after (Refused e) made old = old
+
+-- the part of a working list that a call leaves alone: what stands behind the first k numbers or, refused, all
+abbrev pub behind {ℓ} : {A : Type ℓ} → Answer → ℕ → List A → List A
+behind Done k l = drop k l
+behind (Refused e) k l = l
 
 -- a ground that holds refuses, before what comes after it is looked at
 unfoldable pub refuse : Bool → Refusal → Answer → Answer

@@ -6,5 +6,6 @@ pub mod Iterate
 pub mod Fold
 pub mod Tabulate
 pub mod Triangle
+pub mod Rectangle
 pub mod Answers
 pub mod Checks

@@ -1,44 +1,21 @@
 -- A functional of a field on a grid: the value at each row and longitude, and the checks of the call. Definitions only.
 use mathlib.Core.Bool.{Bool, not}
 use mathlib.Core.List.{List}
-use Prim.Native.Nat.{ℕ, _+_, _*_, _/_, _%_}
+use Prim.Native.Nat.{ℕ, _+_, _*_}
 use lib.Dec.{ltb, eqb}
-use lib.ListN.{getD}
 use lib.Ieee.{Float, nan}
 use Rattle.refusal.specs.Numbers.{refuse}
 use Rattle.refusal.specs.declared.Answer.{Answer}
 use Rattle.refusal.specs.declared.Answer.the-variants.{Done}
 use Rattle.refusal.specs.declared.Refusal.the-variants.{Size, Length, Love, Space}
 use Rattle.storage.specs.Checks.{_andThen_, tablesCheck}
-use Rattle.storage.specs.Triangle.{tableSize, cells, along}
-use Rattle.legendre.specs.Recursion.{aCell, bCell, pCell}
+use Rattle.storage.specs.Triangle.{tableSize, cells}
+use Rattle.legendre.specs.Directions.{legendreRow, cosines, sines}
 use Rattle.rounding.specs.Margins.{gridValue, TableAtMostOne, LineAtMostOne}
-
--- the sine t and the cosine u of the latitude of row i
-unfoldable pub rowSine : List Float → ℕ → Float
-rowSine lats i = getD lats (i + i) nan
-
-unfoldable pub rowCosine : List Float → ℕ → Float
-rowCosine lats i = getD lats (i + i + 1) nan
-
--- the cosine and the sine of m times longitude j, in a list with the orders 0 to N of each longitude
-unfoldable pub cosines : List Float → ℕ → ℕ → ℕ → Float
-cosines trig N j m = getD trig (j * (N + N + 2) + (m + m)) nan
-
-unfoldable pub sines : List Float → ℕ → ℕ → ℕ → Float
-sines trig N j m = getD trig (j * (N + N + 2) + (m + m + 1)) nan
-
--- P at row i, with the recursion coefficients that `Legendre::new` has
-unfoldable pub legendreRow : List Float → ℕ → ℕ → ℕ → Float
-legendreRow lats i = pCell (along aCell) (along bCell) (rowSine lats i) (rowCosine lats i)
 
 -- the value at row i and longitude j
 unfoldable pub gridCell : (factor : ℕ → Float) (lats c s trig : List Float) (N i j : ℕ) → Float
 gridCell factor lats c s trig N i j = gridValue (legendreRow lats i) factor (cells c nan) (cells s nan) (cosines trig N j) (sines trig N j) N
-
--- row after row, L values in each
-unfoldable pub byRows : (ℕ → ℕ → Float) → ℕ → ℕ → Float
-byRows F L k = F (k / L) (k % L)
 
 -- what demand 3 asks of the numbers in the sum at one longitude: that c, s, the cosines and the sines are at most 1 in size
 pub record SizesAtMostOne (N : ℕ) (c s : ℕ → ℕ → Float) (cos sin : ℕ → Float) : Type 0 where

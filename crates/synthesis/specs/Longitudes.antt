@@ -8,7 +8,7 @@ use lib.Ieee.{Float, nan, binary64}
 use Rattle.number.specs.Float64.{_⊕_, _⊗_}
 use Rattle.rounding.specs.Sums.{zero⁺, runningSum}
 use Rattle.rounding.specs.SumSteps.{running-none, running-more}
-use Rattle.synthesis.specs.Grid.{cosines, sines}
+use Rattle.legendre.specs.Directions.{cosines, sines}
 
 -- the order m at a longitude whose cosines and sines start at index k: x m times the cosine and y m times the sine
 unfoldable pub orderFrom : (x y trig : List Float) (k m : ℕ) → Float

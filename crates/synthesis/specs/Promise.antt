@@ -11,44 +11,26 @@ use lib.Seq.{getD-take, getD-drop}
 use lib.Ieee.{Float, nan, binary64, fits}
 use lib.Ieee.Fits.{mul-fits}
 use lib.Ieee.Scale.{finite}
-use Rattle.refusal.specs.Numbers.{after}
+use Rattle.refusal.specs.Numbers.{after, behind}
 use Rattle.refusal.specs.declared.Answer.{Answer}
 use Rattle.refusal.specs.declared.Answer.the-variants.{Done, Refused}
 use Rattle.storage.specs.Elements.{from, from-zero}
 use Rattle.storage.specs.Fill.{fill, length-fill, drop-fill}
 use Rattle.storage.specs.Filled.{Filled, filled, filled-in, filled-before}
+use Rattle.storage.specs.Rectangle.{byRows, by-rows-same, by-rows-at}
 use Rattle.storage.specs.Triangle.{tableSize, cells, along}
 use Rattle.legendre.specs.Recursion.{aCell, bCell, pCell}
 use Rattle.rounding.specs.Margins.{LineFits, GridWithin}
 use Rattle.rounding.specs.Theorems.{grid-within}
-use Rattle.synthesis.specs.Grid.{cosines, sines, legendreRow, gridCell, byRows, SizesAtMostOne, workSize, gridCheck}
-use Rattle.synthesis.specs.Rows.{rowsValue, rows-same, rows-are, by-rows-same, by-rows-at}
+use Rattle.legendre.specs.Directions.{cosines, sines, legendreRow}
+use Rattle.legendre.specs.Tables.{withTables}
+use Rattle.synthesis.specs.Grid.{gridCell, SizesAtMostOne, workSize, gridCheck}
+use Rattle.synthesis.specs.Rows.{rowsValue, rows-same, rows-are}
 use Rattle.synthesis.specs.Checks.{accepted}
-
--- the part of a working list that a call leaves alone: what stands behind the first k numbers or, refused, all
-abbrev pub behind {ℓ} : {A : Type ℓ} → Answer → ℕ → List A → List A
-behind Done k l = drop k l
-behind (Refused e) k l = l
 
 -- every number is a double
 abbrev pub Doubles : List Float → Type 0
 Doubles l = (k : ℕ) → T (fits binary64 (getD l k nan))
-
--- w with the two tables of the recursion up to degree N at its front
-unfoldable pub withTables : ℕ → List Float → List Float
-withTables N w = fill (tableSize N) (along bCell) (tableSize N) (fill 0 (along aCell) (tableSize N) w)
-
-pub tables-filled : {w l l′ : List Float} (N total : ℕ) → total ≡ tableSize N → Filled 0 (along aCell) (tableSize N) w l
-    → Filled total (along bCell) (tableSize N) l l′ → l′ ≡ withTables N w
-unfolding withTables
-tables-filled {w} {l} N total e a b =
-    let T = tableSize N in
-    b .is ∙ ap (λ (i : ℕ). fill i (along bCell) T l) e ∙ ap (fill T (along bCell) T) (a .is)
-
--- the second table, lent as the part of the list behind the first
-pub second-table : (N total n : ℕ) (w : List Float) → total ≡ tableSize N → (k : ℕ) → k < n
-    → getD (take n (drop total w)) k nan ≡ getD w (tableSize N + k) nan
-second-table N total n w e k h = getD-take n (drop total w) k nan h ∙ getD-drop total w k nan ∙ ap (λ (i : ℕ). getD w (i + k) nan) e
 
 module _ (factor : ℕ → Float) (lats c s trig : List Float) (N rows L : ℕ) where
   -- what the passes of an accepted call make of the working list w and the output o
@@ -100,7 +82,7 @@ module _ (factor : ℕ → Float) (lats c s trig : List Float) (N rows L : ℕ) 
       let all = fill 0 (byRows F L) (rows * L) o in
       let full = filled 0 (byRows F L) (rows * L) o (q ∙ ap (λ (y : Answer). after y all o) d) in
       let up = mul-le-mul-right L hi in
-      let v : getD o′ (i * L + j) nan ≡ F i j = by-rows-at F L i j full hj (omega arith) (k .room-out) in
+      let v : getD o′ (i * L + j) nan ≡ F i j = by-rows-at F L i j nan full hj (omega arith) (k .room-out) in
       subst (λ (y : Float). GridWithin (legendreRow lats i) factor (cells c nan) (cells s nan) (cosines trig N j) (sines trig N j) N y) (sym v)
       (grid-within (legendreRow lats i) factor (cells c nan) (cells s nan) (cosines trig N j) (sines trig N j) N (k .tables .top)
       (λ n m. mul-fits binary64 _ _) ff (λ n m. dc _) (λ n m. ds _) (λ m. dt _) (λ m. dt _)

@@ -1,53 +1,23 @@
--- Rows of a grid, one after the other in a list, and a row's values from the sums of its orders. Assumes nothing.
+-- The rows of a grid: a row's values from the sums of its orders, and from its own pair alone. Assumes nothing.
 use mathlib.Core.Path.{_≡_, refl, sym, ap, ap₂, _∙_}
 use mathlib.Core.List.{List}
-use Prim.Native.Nat.{ℕ, suc, _+_, _-_, _*_, _/_, _%_, _≤_, _<_}
-use native.Mathlib.Nat.{not-suc-le-zero, add-comm, zero-add, add-mul-div-right, div-eq-of-lt, mod-eq-sub-div-mul}
+use Prim.Native.Nat.{ℕ, suc, _+_, _≤_, _<_}
+use native.Mathlib.Nat.{not-suc-le-zero, zero-add}
 use native.Mathlib.Numerals.{add-one}
 use native.Mathlib.Omega.{arith}
 use lib.ListN.{length, getD, set}
 use lib.Seq.{getD-set-other}
 use lib.Ieee.{Float, nan, binary64}
 use Rattle.number.specs.Float64.{_⊕_, _⊗_}
-use Rattle.storage.specs.Filled.{Filled, filled-join, filled-to, filled-in, filled-same}
+use Rattle.storage.specs.Filled.{Filled, filled-in, filled-same}
 use Rattle.storage.specs.Triangle.{idx, tableSize, cells, along, idx-within}
 use Rattle.legendre.specs.Recursion.{aCell, bCell, pCell, p-same}
 use Rattle.rounding.specs.Sums.{zero⁺, columnSum}
 use Rattle.rounding.specs.SumSteps.{running-same, column-same}
 use Rattle.rounding.specs.Margins.{gridSummand, gridOrder, gridValue}
-use Rattle.synthesis.specs.Grid.{rowSine, rowCosine, cosines, sines, legendreRow, gridCell, byRows}
+use Rattle.legendre.specs.Directions.{rowSine, rowCosine, cosines, sines, legendreRow}
+use Rattle.synthesis.specs.Grid.{gridCell}
 use Rattle.synthesis.specs.Longitudes.{orderTerm, pointAt}
-
--- ---- rows in a list
-by-row : (F : ℕ → ℕ → Float) (L i j : ℕ) → j < L → byRows F L (i * L + j) ≡ F i j
-unfolding byRows
-by-row F L i j h = ap₂ F d (mod-eq-sub-div-mul (i * L + j) L ∙ ap (λ (x : ℕ). i * L + j - x * L) d ∙ less (i * L) j)
-  where
-    less : (x y : ℕ) → x + y - x ≡ y
-    less x y = omega arith
-
-    some : 0 < L
-    some = omega arith
-
-    d : (i * L + j) / L ≡ i
-    d = ap (λ (x : ℕ). x / L) (add-comm (i * L) j) ∙ add-mul-div-right j i some ∙ ap (λ (x : ℕ). x + i) (div-eq-of-lt h) ∙ zero-add i
-
-module _ (F : ℕ → ℕ → Float) (L i : ℕ) {k : ℕ} {d l : List Float} where
-  -- row i written after those before it
-  pub by-rows-more : {at : ℕ} {l′ : List Float} → Filled 0 (byRows F L) k d l → Filled at (F i) L l l′ → k ≡ i * L → at ≡ k
-      → Filled 0 (byRows F L) ((i + 1) * L) d l′
-  by-rows-more {at} r s e p =
-      filled-to (filled-join r s (p ∙ sym (zero-add k)) (λ j h. ap (λ (x : ℕ). byRows F L (x + j)) e ∙ by-row F L i j h)) (omega arith)
-
-  -- what stands at row i and longitude j
-  pub by-rows-at : (j : ℕ) → Filled 0 (byRows F L) k d l → j < L → i * L + j < k → k ≤ length d → getD l (i * L + j) nan ≡ F i j
-  by-rows-at j r h g b = filled-in nan r g (sym (zero-add (i * L + j))) (omega arith) ∙ by-row F L i j h
-
--- rows that agree value by value
-pub by-rows-same : (F G : ℕ → ℕ → Float) (L : ℕ) {k : ℕ} {d l : List Float} → ((i j : ℕ) → F i j ≡ G i j) → Filled 0 (byRows F L) k d l
-    → Filled 0 (byRows G L) k d l
-unfolding byRows
-by-rows-same F G L e r = filled-same (byRows G L) r (λ k h. e (k / L) (k % L))
 
 -- ---- the values of a row
 -- the lists that a row is worked out in, by their lengths, have room for the degrees and orders up to nmax

@@ -15,14 +15,15 @@ ghost use lib.Dec.{T};
 ghost use lib.ListN.{length, getD};
 ghost use lib.Ieee.{nan};
 ghost use lib.Ieee.Scale.{finite};
-ghost use Rattle.refusal.specs.Numbers.{after};
+ghost use Rattle.refusal.specs.Numbers.{after, behind};
 ghost use Rattle.refusal.specs.declared.Answer.the-variants.{Done};
 ghost use Rattle.storage.specs.Fill.{fill};
+ghost use Rattle.storage.specs.Rectangle.{byRows};
 ghost use Rattle.storage.specs.Triangle.{cells};
+ghost use Rattle.legendre.specs.Directions.{cosines, sines, legendreRow};
 ghost use Rattle.functional.specs.Factor.{factorOf, lacksLove};
 ghost use Rattle.rounding.specs.Margins.{GridWithin};
-ghost use Rattle.synthesis.specs.Grid.{cosines, sines, legendreRow, gridCell, byRows, SizesAtMostOne, workSize, gridCheck};
-ghost use Rattle.synthesis.specs.Promise.{behind};
+ghost use Rattle.synthesis.specs.Grid.{gridCell, SizesAtMostOne, workSize, gridCheck};
 
 // The most rows of a grid, and the most longitudes.
 pub const MAX_LINES: usize = 65535;

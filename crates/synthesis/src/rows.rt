@@ -6,21 +6,9 @@ ghost use lib.ListN.{length};
 ghost use lib.Ieee.{nan};
 ghost use Rattle.storage.specs.Elements.{from};
 ghost use Rattle.storage.specs.Filled.{Filled};
+ghost use Rattle.storage.specs.Rectangle.{byRows};
 ghost use Rattle.legendre.specs.Recursion.{pmm};
-ghost use Rattle.synthesis.specs.Grid.{rowSine, rowCosine, byRows};
 ghost use Rattle.synthesis.specs.Rows.{RowRoom, rowValue, rowsValue};
-
-// The latitude of row i.
-fn latitude_of(i: usize, latitudes: &[f64]) -> Latitude
-    requires { ⌜ i + i + 1 < length (now latitudes) ⌝ }
-    ensures { λ r. ⌜ r .t ≡ rowSine (now (latitudes .entry)) i ⌝ ∗ ⌜ r .u ≡ rowCosine (now (latitudes .entry)) i ⌝ }
-{
-    let at = i + i;
-    Latitude {
-        t: latitudes[at],
-        u: latitudes[at + 1],
-    }
-}
 
 // One row, from index `at` of out on.
 fn grid_row(
@@ -107,7 +95,7 @@ pub fn grid_rows(
     let mut i = 0;
     let mut at = 0;
     while i < rows {
-        let latitude = latitude_of(i, latitudes);
+        let latitude = legendre::directions::latitude_of(i, latitudes);
         grid_row(
             nmax,
             latitude,

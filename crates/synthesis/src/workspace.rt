@@ -2,43 +2,11 @@
 // call and lent to every row.
 use coefficients::Head;
 use functional::Functional;
-ghost use mathlib.Core.Path.{_≡_};
-ghost use Prim.Native.Nat.{ℕ, _+_, _≤_, _<_};
+ghost use Prim.Native.Nat.{ℕ, _<_};
 ghost use lib.ListN.{length};
-ghost use Rattle.storage.specs.Filled.{Filled};
-ghost use Rattle.storage.specs.Triangle.{tableSize};
 ghost use Rattle.functional.specs.Factor.{factorOf};
 ghost use Rattle.synthesis.specs.Checks.{Accepted};
-ghost use Rattle.synthesis.specs.Promise.{withTables, Made};
-
-// The factors of the degrees up to nmax.
-fn fill_factors(
-    nmax: usize,
-    functional: Functional,
-    love: &[f64],
-    gm: f64,
-    radius: f64,
-    r: f64,
-    out: &mut [f64],
-)
-    requires { ⌜ nmax ≤ 2700 ⌝ ∗ ⌜ nmax < length (now out) ⌝ }
-    ensures { λ _. ⌜ Filled 0 (factorOf functional (now (love .entry)) gm radius r) (nmax + 1) (now (out .entry)) (now (out .exit)) ⌝ }
-{
-    let mut n = 0;
-    while n <= nmax {
-        out[n] = functional.degree_factor(love, n, gm, radius, r);
-        n = n + 1;
-    }
-}
-
-// The tables a and b of the recursion, one after the other at the front of the working list.
-fn fill_tables(nmax: usize, total: usize, work: &mut [f64])
-    requires { ⌜ nmax ≤ 2700 ⌝ ∗ ⌜ total ≡ tableSize nmax ⌝ ∗ ⌜ total + total ≤ length (now work) ⌝ }
-    ensures { λ _. ⌜ now (work .exit) ≡ withTables nmax (now (work .entry)) ⌝ }
-{
-    legendre::recursion::a_table(nmax, work);
-    legendre::recursion::b_table(nmax, &mut work[total..]);
-}
+ghost use Rattle.synthesis.specs.Promise.{Made};
 
 // The tables, the factors and the sectoral numbers, then all rows; the arrays are overwritten.
 fn grid_in(
@@ -75,8 +43,8 @@ fn grid_in(
 {
     let nmax = head.nmax;
     let total = c.len();
-    fill_tables(nmax, total, work);
-    fill_factors(nmax, functional, love, head.gm, head.radius, r, factors);
+    legendre::recursion::tables(nmax, total, work);
+    functional.factors(love, nmax, head.gm, head.radius, r, factors);
     legendre::rows::sectorals(nmax, sectorals);
     let a = &work[..];
     let b = &a[total..];

@@ -1,6 +1,6 @@
 -- `rows::grid_rows` meets its contract: the rows above row i are written. Assumes nothing.
-use Rattle.synthesis.specs.Grid.{byRows}
-use Rattle.synthesis.specs.Rows.{rowsValue, row-at, by-rows-more, room-kept}
+use Rattle.storage.specs.Rectangle.{byRows, by-rows-more}
+use Rattle.synthesis.specs.Rows.{rowsValue, row-at, room-kept}
 use Rattle.storage.specs.Elements.{from}
 use lib.Ieee.{nan}
 use Rattle.storage.specs.Filled.{Filled, filled-none, filled-to}

@@ -1,5 +1,6 @@
 -- `workspace::grid_in` meets its contract: the rows by the tables and factors that are filled before them. Assumes nothing.
-use Rattle.synthesis.specs.Promise.{made, second-table}
+use Rattle.synthesis.specs.Promise.{made}
+use Rattle.legendre.specs.Tables.{second-table}
 use Rattle.functional.specs.Factor.{factorOf}
 use Rattle.storage.specs.Filled.{filled-self, filled-in}
 use native.Mathlib.Nat.{zero-add}
@@ -13,14 +14,14 @@ use borrow.Author.Needs.{needs}
 use Rattle.synthesis.proofs.workspace.grid_in.Statement.{statement}
 use Rattle.synthesis.proofs.workspace.grid_in.Tie as tie
 
-fill-tables-requires : tie.Need-fill-tables-requires
-fill-tables-requires c κs =
+tables-requires : tie.Need-tables-requires
+tables-requires c κs =
     let q = c .before .before .before .before .before .before .before .before .before .before .before .before .before .before .before .before .pre in
     let k = q .0 in
     (k .tables .top, (k .tables .c, omega (arith, k .tables .c, k .room-work)))
 
-fill-factors-requires : tie.Need-fill-factors-requires
-fill-factors-requires c κs =
+factors-requires : tie.Need-factors-requires
+factors-requires c κs =
     let c1 = c .before .before .before .before .before .before .before .before .before .before .before .before in
     let q = c1 .before .before .before .before .before .before .before .before .pre in (q .0 .tables .top, q .1 .0)
 
@@ -44,7 +45,7 @@ sub-b c =
     let c2 = c1 .before .before .before .before .before .before .before .before .before .before .before .before in
     let q = c2 .before .before .before .before .pre in
     let k = q .0 in
-    let long = c .before .before .before .before .before .before .before .before .before .before .before .fill-tables .kept .1 .1 .0 in
+    let long = c .before .before .before .before .before .before .before .before .before .before .before .tables .kept .1 .1 .0 in
     omega (arith, k .tables .c, k .room-work, long)
 
 part-b-start : tie.Need-part-b-start
@@ -53,7 +54,7 @@ part-b-start c =
     let c2 = c1 .before .before .before .before .before .before .before .before .before .before .before .before in
     let q = c2 .before .before .before .before .pre in
     let k = q .0 in
-    let long = c .before .before .before .before .before .before .before .before .before .before .before .fill-tables .kept .1 .1 .0 in
+    let long = c .before .before .before .before .before .before .before .before .before .before .before .tables .kept .1 .1 .0 in
     omega (arith, k .tables .c, k .room-work, long)
 
 grid-rows-requires : tie.Need-grid-rows-requires
@@ -63,8 +64,8 @@ grid-rows-requires c κs =
     let c3 = c2 .before .before .before .before .before .before .before .before .before .before .before .before in
     let q = c3 .before .before .pre in
     let k = q .0 in
-    let long = c1 .before .before .before .before .before .before .before .before .before .fill-tables .kept .1 .1 .0 in
-    let f = c1 .before .before .before .before .before .fill-factors .ensures in
+    let long = c1 .before .before .before .before .before .before .before .before .before .tables .kept .1 .1 .0 in
+    let f = c1 .before .before .before .before .before .factors .ensures in
     let d = c1 .before .sectorals .ensures in (
       record {
         top = k .tables .top;
@@ -89,7 +90,7 @@ same-length-9 c =
     let c1 = c .before .before .before .before .before .before .before .before .before .before .before .before in
     let c2 = c1 .before .before .before .before .before .before .before .before .before .before .before .before in
     let c3 = c2 .before .before .before .before .before .before .before .before .before .before .before .before in
-    c3 .fill-tables .kept .1 .1 .0
+    c3 .tables .kept .1 .1 .0
 
 returns : tie.Need-returns
 returns c =
@@ -103,19 +104,19 @@ returns c =
     let N = a .head .nmax in
     let g = factorOf (a .functional) (a .love .now) (a .head .gm) (a .head .radius) (a .r) in
     let total = length (a .c .now) in
-    let w = c3 .fill-tables .last .1 .1 .0 in
-    let f = c2 .before .before .before .before .before .before .before .before .fill-factors .last .1 .1 .1 .1 .1 .1 .0 in
-    let long = c3 .fill-tables .kept .1 .1 .0 in
+    let w = c3 .tables .last .1 .1 .0 in
+    let f = c2 .before .before .before .before .before .before .before .before .factors .last .1 .1 .1 .1 .1 .1 .0 in
+    let long = c3 .tables .kept .1 .1 .0 in
     let room = length w - total in
     made g (a .latitudes .now) (a .c .now) (a .s .now) (a .trig .now) N (a .rows) (a .longitudes) (take room (drop total w)) f
-    (c3 .fill-tables .ensures)
+    (c3 .tables .ensures)
     (k .room-work) (λ i h. second-table N total room w (k .tables .c) i (omega (arith, h, k .tables .c, k .room-work, long)))
-    (λ i h. filled-in {j = i} nan (c2 .before .before .before .before .before .before .before .before .fill-factors .ensures)
+    (λ i h. filled-in {j = i} nan (c2 .before .before .before .before .before .before .before .before .factors .ensures)
     (omega (arith, h)) (sym (zero-add i)) (omega (arith, h, q .1 .0))) (c1 .before .before .grid-rows .ensures)
 
 pub grid-in-spec : {M : Type 1} → statement M
 grid-in-spec =
     tie.close
-    (tie.spec fill-tables-requires fill-factors-requires sectorals-requires mul-b sub-b part-b-start (λ c. search needs) grid-rows-requires
+    (tie.spec tables-requires factors-requires sectorals-requires mul-b sub-b part-b-start (λ c. search needs) grid-rows-requires
     (λ c. search needs) (λ c. search needs) (λ c. search needs) (λ c. search needs) (λ c. search needs) (λ c. search needs) (λ c. search needs)
     (λ c. search needs) same-length-9 (λ c. search needs) returns)

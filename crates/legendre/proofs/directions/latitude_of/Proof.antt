@@ -1,9 +1,9 @@
--- `rows::latitude_of` meets its contract: the pair of row i. Assumes nothing.
-use Rattle.synthesis.specs.Grid.{rowSine, rowCosine}
+-- `directions::latitude_of` meets its contract: the pair of row i. Assumes nothing.
+use Rattle.legendre.specs.Directions.{rowSine, rowCosine}
 use mathlib.Core.Path.{refl}
 use borrow.Author.Needs.{needs}
-use Rattle.synthesis.proofs.rows.latitude_of.Statement.{statement}
-use Rattle.synthesis.proofs.rows.latitude_of.Tie as tie
+use Rattle.legendre.proofs.directions.latitude_of.Statement.{statement}
+use Rattle.legendre.proofs.directions.latitude_of.Tie as tie
 
 returns : tie.Need-returns
 unfolding rowSine rowCosine

@@ -1,12 +1,12 @@
--- `workspace::fill_tables` meets its contract: the second table is lent its part. Assumes nothing.
-use Rattle.synthesis.specs.Promise.{tables-filled}
+-- `recursion::tables` meets its contract: the second table is lent its part. Assumes nothing.
+use Rattle.legendre.specs.Tables.{tables-filled}
 use Rattle.storage.specs.Filled.{filled-part}
 use native.Mathlib.Omega.{arith}
 use Prim.Native.Nat.{_-_}
 use lib.ListN.{length}
 use borrow.Author.Needs.{needs}
-use Rattle.synthesis.proofs.workspace.fill_tables.Statement.{statement}
-use Rattle.synthesis.proofs.workspace.fill_tables.Tie as tie
+use Rattle.legendre.proofs.recursion.tables.Statement.{statement}
+use Rattle.legendre.proofs.recursion.tables.Tie as tie
 
 a-table-requires : tie.Need-a-table-requires
 a-table-requires c κs = (omega arith, omega arith)
@@ -31,7 +31,7 @@ returns c =
     tables-filled (a .nmax) (a .total) (omega arith) (c .before .before .before .before .before .before .a-table .ensures)
     (filled-part (a .total) (length l - a .total) l (c .before .before .b-table .ensures) (omega arith))
 
-pub fill-tables-spec : {M : Type 1} → statement M
-fill-tables-spec =
+pub tables-spec : {M : Type 1} → statement M
+tables-spec =
     tie.close
     (tie.spec a-table-requires mul-b-table sub-b-table part-b-table-start (λ c. search needs) b-table-requires (λ c. search needs) returns)
