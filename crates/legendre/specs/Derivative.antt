@@ -17,8 +17,9 @@ use Rattle.number.specs.Identities.{one-times, product-comm}
 use Rattle.number.specs.Root.{rootOf}
 use Rattle.number.specs.RootLaws.{root-fits}
 use Rattle.number.specs.Whole.{whole-sum, whole-difference, whole-next, whole-one}
-use Rattle.storage.specs.Filled.{Filled, filled-same}
-use Rattle.storage.specs.Triangle.{rowStart, idx, cells, tableSize, along, along-same, rows-at, idx-within}
+use Rattle.storage.specs.Elements.{from}
+use Rattle.storage.specs.Filled.{Filled, filled-same, filled-in}
+use Rattle.storage.specs.Triangle.{rowStart, cells, tableSize, along, along-same, rows-at, idx-within}
 use Rattle.legendre.specs.Recursion.{two64, pCell}
 
 abbrev pub half64 : Float
@@ -56,13 +57,27 @@ dCell s n m =
     (zonalOf n ⊗ s n 1)
     (neg half64 ⊗ (lowerOf n m ⊗ s n (m - 1) ⊖ cond (ltb m n) (upperOf n m ⊗ s n (m + 1)) zero64)))
 
--- the row of degree n from order 1 on
-unfoldable pub dAbove : (ℕ → ℕ → Float) → ℕ → ℕ → Float
-dAbove s n k = dCell s n (1 + k)
-
 -- the derivative of P(n, m)
 abbrev pub dpCell : (a b : ℕ → Float) → (t u : Float) → ℕ → ℕ → Float
 dpCell a b t u n m = dCell (pCell a b t u) n m
+
+-- ---- by weights, which do not depend on the latitude
+-- what the number at order m - 1 counts for, and in column 0 the number at order 1: the one root that each entry takes
+unfoldable pub weightCell : ℕ → ℕ → Float
+weightCell n m = cond (eqb m 0) (zonalOf n) (lowerOf n m)
+
+-- the derivative of the row p of degree n by its weights w
+unfoldable pub derivedRow : ℕ → (w p : ℕ → Float) → ℕ → Float
+derivedRow n w p m =
+    cond (eqb n 0) zero64
+    (cond (eqb m 0) (w 0 ⊗ p 1) (neg half64 ⊗ (w m ⊗ p (m - 1) ⊖ cond (ltb m n) (w (m + 1) ⊗ p (m + 1)) zero64)))
+
+-- both from order 1 on
+unfoldable pub weightAbove : ℕ → ℕ → Float
+weightAbove n k = weightCell n (1 + k)
+
+unfoldable pub derivedAbove : ℕ → (w p : ℕ → Float) → ℕ → Float
+derivedAbove n w p k = derivedRow n w p (1 + k)
 
 -- ---- the roots of a row are shared: the upper one at m is the lower one at m + 1, since sums and differences of whole numbers are exact
 same-product : (n m : ℕ) → m < n → n < 2 ^ 52
@@ -93,28 +108,72 @@ pub lower-first : (n : ℕ) → rootTwo64 ⊗ rootOf ((ofWhole n ⊕ one64) ⊗ 
 unfolding lowerOf
 lower-first n = ap (λ (x : Float). rootTwo64 ⊗ rootOf ((ofWhole n ⊕ x) ⊗ (ofWhole n ⊖ x ⊕ one64))) whole-one
 
--- ---- the entries of a row that starts at index at, as the code works them out
-pub d-origin : (s : ℕ → ℕ → Float) (n : ℕ) → n ≡ 0 → zero64 ≡ dCell s n 0
-unfolding dCell
-d-origin s n e = simp (eq-eqb n 0 e)
+-- ---- the weights of a row, and the entries that they make, as the code works them out
+pub weight-zonal : (n : ℕ) → zonalOf n ≡ weightCell n 0
+unfolding weightCell
+weight-zonal n = refl
 
-module _ (src : List Float) (n at : ℕ) (h : 1 ≤ n) (e : at ≡ rowStart n) where
-  pub d-zonal : {z : Float} → z ≡ zonalOf n → z ⊗ getD src (at + 1) nan ≡ dCell (cells src nan) n 0
-  unfolding dCell cells
-  d-zonal {z} p = simp (p, e, ne-eqb n 0 (λ e. omega arith))
+weight-lower : (n m : ℕ) → 1 ≤ m → lowerOf n m ≡ weightCell n m
+unfolding weightCell
+weight-lower n m h = simp (ne-eqb m 0 (λ e. omega arith))
 
-  pub d-inner : (m : ℕ) {lower upper : Float} → 1 ≤ m → m < n → lower ≡ lowerOf n m → upper ≡ upperOf n m
-      → neg half64 ⊗ (lower ⊗ getD src (at + (m - 1)) nan ⊖ upper ⊗ getD src (at + (m + 1)) nan) ≡ dAbove (cells src nan) n (m - 1)
-  unfolding dAbove dCell cells
-  d-inner m g l p q =
+pub weight-above : (n m : ℕ) {lower : Float} → 1 ≤ m → lower ≡ lowerOf n m → lower ≡ weightAbove n (m - 1)
+unfolding weightAbove
+weight-above n m h e =
+    let k : 1 + (m - 1) ≡ m = omega arith in
+    rw k (e ∙ weight-lower n m h)
+
+pub derived-origin : (n : ℕ) (w p : ℕ → Float) → n ≡ 0 → zero64 ≡ derivedRow n w p 0
+unfolding derivedRow
+derived-origin n w p e = simp (eq-eqb n 0 e)
+
+module _ (n : ℕ) (h : 1 ≤ n) where
+  pub derived-zonal : (w p : ℕ → Float) → w 0 ⊗ p 1 ≡ derivedRow n w p 0
+  unfolding derivedRow
+  derived-zonal w p = simp (ne-eqb n 0 (λ e. omega arith))
+
+  pub derived-inner : (w p : ℕ → Float) (m : ℕ) → 1 ≤ m → m < n
+      → neg half64 ⊗ (w m ⊗ p (m - 1) ⊖ w (m + 1) ⊗ p (m + 1)) ≡ derivedAbove n w p (m - 1)
+  unfolding derivedAbove derivedRow
+  derived-inner w p m g l =
       let k : 1 + (m - 1) ≡ m = omega arith in
-      rw k (simp (p, q, e, ne-eqb n 0 (λ e. omega arith), ne-eqb m 0 (λ e. omega arith), lt-ltb m n l))
+      rw k (simp (ne-eqb n 0 (λ e. omega arith), ne-eqb m 0 (λ e. omega arith), lt-ltb m n l))
 
-  pub d-sectoral : {lower : Float} → lower ≡ lowerOf n n → neg half64 ⊗ (lower ⊗ getD src (at + (n - 1)) nan ⊖ zero64) ≡ dAbove (cells src nan) n (n - 1)
-  unfolding dAbove dCell cells
-  d-sectoral p =
+  pub derived-sectoral : (w p : ℕ → Float) → neg half64 ⊗ (w n ⊗ p (n - 1) ⊖ zero64) ≡ derivedAbove n w p (n - 1)
+  unfolding derivedAbove derivedRow
+  derived-sectoral w p =
       let k : 1 + (n - 1) ≡ n = omega arith in
-      rw k (simp (p, e, ne-eqb n 0 (λ e. omega arith), le-ltb n n (omega arith)))
+      rw k (simp (ne-eqb n 0 (λ e. omega arith), le-ltb n n (omega arith)))
+
+-- the weights of a row in w and row n of the table s in p make the row of its derivative
+pub derived-row-is : (s : ℕ → ℕ → Float) (n : ℕ) (w p : ℕ → Float) → n < 2 ^ 52 → ((m : ℕ) → m ≤ n → w m ≡ weightCell n m)
+    → ((m : ℕ) → m ≤ n → p m ≡ s n m) → (m : ℕ) → m ≤ n → derivedRow n w p m ≡ dCell s n m
+unfolding derivedRow dCell
+derived-row-is s zero w p b ew ep m h = refl
+derived-row-is s (suc n) w p b ew ep zero h =
+    simp (ne-eqb (suc n) 0 (λ e. omega arith)) (ap₂ _⊗_ (ew 0 (omega arith) ∙ sym (weight-zonal (suc n))) (ep 1 (omega arith)))
+derived-row-is s (suc n) w p b ew ep (suc m) h =
+    let below = ap₂ _⊗_ (ew (suc m) h ∙ sym (weight-lower (suc n) (suc m) (omega arith))) (ep (suc m - 1) (omega arith)) in
+    ⊎-elim
+    (λ (e : suc m ≡ suc n). simp (ne-eqb (suc n) 0 (λ e. omega arith), ne-eqb (suc m) 0 (λ e. omega arith), le-ltb (suc m) (suc n) (omega arith))
+    (ap (λ (x : Float). neg half64 ⊗ (x ⊖ zero64)) below))
+    (λ (g : suc m < suc n). simp (ne-eqb (suc n) 0 (λ e. omega arith), ne-eqb (suc m) 0 (λ e. omega arith), lt-ltb (suc m) (suc n) g)
+    (ap₂ (λ (x y : Float). neg half64 ⊗ (x ⊖ y)) below
+    (ap₂ _⊗_
+    (ew (suc m + 1) (omega arith) ∙ sym (weight-lower (suc n) (suc m + 1) (omega arith)) ∙ sym (lower-next (suc n) (suc m) (omega arith) g b))
+    (ep (suc m + 1) (omega arith)))))
+    (eq-or-lt-of-le h)
+
+-- a row of a table, by a list that starts with its weights
+pub derived-in-table : {n at : ℕ} {v w d l : List Float} (src : List Float) → at ≡ rowStart n → n < 2 ^ 52 → n < length v
+    → Filled 0 (weightCell n) (n + 1) v w → Filled at (derivedRow n (from 0 w nan) (from at src nan)) (n + 1) d l
+    → Filled at (dCell (cells src nan) n) (n + 1) d l
+unfolding from cells
+derived-in-table {n} {at} {v} {w} src e b h weights r =
+    filled-same (dCell (cells src nan) n) r
+    (λ m g.
+    derived-row-is (cells src nan) n (from 0 w nan) (from at src nan) b
+    (λ i k. filled-in {j = i} nan weights (omega arith) refl (omega arith)) (λ i k. ap (λ (x : ℕ). getD src (x + i) nan) e) m (omega arith))
 
 -- ---- the derivative of two tables that agree up to degree N
 module _ (s s′ : ℕ → ℕ → Float) (N : ℕ) (same : (n m : ℕ) → m ≤ n → n ≤ N → s n m ≡ s′ n m) where

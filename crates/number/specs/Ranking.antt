@@ -3,6 +3,8 @@
 use mathlib.Core.Path.{_≡_, refl, sym, ap, _∙_}
 use mathlib.Core.Bool.{Bool, true, false, not, true≢false}
 use mathlib.Core.List.{List, [], _∷_, _++_}
+use Prim.Native.Nat.{suc}
+use lib.ListN.{length}
 
 -- a test for coming strictly before, of a total preorder
 pub record Precedes {A : Type 0} (before : A → A → Bool) : Type 0 where
@@ -49,6 +51,21 @@ module _ {A : Type 0} (before : A → A → Bool) where
   unfolding merge
   merge-none [] = refl
   merge-none (x ∷ k) = refl
+
+  -- a ranking has as many elements
+  length-insert : (x : A) (l : List A) → length (insert x l) ≡ suc (length l)
+  unfolding insert
+  length-insert x [] = refl
+  length-insert x (y ∷ l) = pick (before y x) refl (length-insert x l)
+    where
+      pick : (p : Bool) → before y x ≡ p → length (insert x l) ≡ suc (length l) → length (insert x (y ∷ l)) ≡ suc (suc (length l))
+      pick true p e = ap length (insert-behind x y l p) ∙ ap suc e
+      pick false p e = ap length (insert-front x y l p)
+
+  pub length-ranking : (l : List A) → length (ranking l) ≡ length l
+  unfolding ranking
+  length-ranking [] = refl
+  length-ranking (x ∷ l) = length-insert x (ranking l) ∙ ap suc (length-ranking l)
 
   -- ---- merging
   single : (x : A) (l : List A) → insert x l ≡ merge (x ∷ []) l

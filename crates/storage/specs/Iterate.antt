@@ -25,6 +25,18 @@ module _ {ℓ} {S : Type ℓ} where
   unfolding iterate turns
   iterate-step f i n s h = let e : n - i ≡ suc (n - (i + 1)) = omega arith in rw (e, add-one)
 
+  turns-same : (f g : ℕ → S → S) (i k : ℕ) (s : S) → ((j : ℕ) (t : S) → i ≤ j → j < i + k → f j t ≡ g j t) → turns f i k s ≡ turns g i k s
+  unfolding turns
+  turns-same f g i zero s e = refl
+  turns-same f g i (suc k) s e =
+      ap (turns f (suc i) k) (e i s (omega arith) (omega arith))
+      ∙ turns-same f g (suc i) k (g i s) (λ j t h l. e j t (omega arith) (omega arith))
+
+  -- the same turns, said otherwise
+  pub iterate-same : (f g : ℕ → S → S) (i n : ℕ) (s : S) → ((j : ℕ) (t : S) → i ≤ j → j < n → f j t ≡ g j t) → iterate f i n s ≡ iterate g i n s
+  unfolding iterate
+  iterate-same f g i n s e = turns-same f g i (n - i) s (λ j t h l. e j t h (omega arith))
+
   turns-join : (f : ℕ → S → S) (i j k : ℕ) (s : S) → turns f (i + j) k (turns f i j s) ≡ turns f i (j + k) s
   unfolding turns
   turns-join f i zero k s = rw (add-zero, zero-add)
@@ -132,3 +144,28 @@ module _ {ℓ} {S : Type ℓ} where
     pub down-done : (i : ℕ) (s : S) → i ≤ l → iterateDown t f l (i - l) s ≡ s
     unfolding iterateDown
     down-done i s b = let e : i - l ≡ 0 = omega arith in rw e
+
+  -- what holds of the state at the start and is kept by every turn holds at the end, for each kind of loop
+  module _ (P : S → Type 0) where
+    turns-keep : (f : ℕ → S → S) → ((j : ℕ) (t : S) → P t → P (f j t)) → (i k : ℕ) (s : S) → P s → P (turns f i k s)
+    unfolding turns
+    turns-keep f e i zero s h = h
+    turns-keep f e i (suc k) s h = turns-keep f e (suc i) k (f i s) (e i s h)
+
+    pub iterate-keeps : (f : ℕ → S → S) → ((j : ℕ) (t : S) → P t → P (f j t)) → (i n : ℕ) (s : S) → P s → P (iterate f i n s)
+    unfolding iterate
+    iterate-keeps f e i n s h = turns-keep f e i (n - i) s h
+
+    pick : (b : Bool) {x y : S} → P x → P y → P (elim b [ true ↦ x | false ↦ y ])
+    pick true h g = h
+    pick false h g = g
+
+    pub until-keeps : (t : S → Bool) (f : S → S) → ((s : S) → P s → P (f s)) → (k : ℕ) (s : S) → P s → P (iterateUntil t f k s)
+    unfolding iterateUntil
+    until-keeps t f e zero s h = h
+    until-keeps t f e (suc k) s h = pick (t s) h (until-keeps t f e k (f s) (e s h))
+
+    pub down-keeps : (t : S → Bool) (f : ℕ → S → S) → ((j : ℕ) (s : S) → P s → P (f j s)) → (l k : ℕ) (s : S) → P s → P (iterateDown t f l k s)
+    unfolding iterateDown
+    down-keeps t f e l zero s h = h
+    down-keeps t f e l (suc k) s h = pick (t s) h (down-keeps t f e l k (f (l + k) s) (e (l + k) s h))

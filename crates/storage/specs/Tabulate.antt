@@ -38,6 +38,21 @@ module _ {A : Type 0} where
   unfolding tabulate
   getD-tabulate f i n j z h = getD-values f i (n - i) j z (omega arith)
 
+  values-join : (f : ℕ → A) (i j k : ℕ) → values f i j ++ values f (i + j) k ≡ values f i (j + k)
+  unfolding values
+  values-join f i zero k = rw (add-zero, zero-add)
+  values-join f i (suc j) k =
+      ap (λ (t : List A). f i ∷ t) (ap (λ (n : ℕ). values f (suc i) j ++ values f n k) (add-suc i j ∙ sym (suc-add i j)) ∙ values-join f (suc i) j k)
+      ∙ ap (values f i) (sym (suc-add j k))
+
+  -- the values up to j, and then those from j on
+  pub tabulate-join : (f : ℕ → A) (i j n : ℕ) → i ≤ j → j ≤ n → tabulate f i j ++ tabulate f j n ≡ tabulate f i n
+  unfolding tabulate
+  tabulate-join f i j n h g =
+      let e : j ≡ i + (j - i) = omega arith in
+      let k : n - i ≡ j - i + (n - j) = omega arith in
+      ap (λ (x : ℕ). values f i (j - i) ++ values f x (n - j)) e ∙ values-join f i (j - i) (n - j) ∙ ap (values f i) (sym k)
+
   -- a loop that writes f i at each index i: what is written, with what is still to come
   pub tabulate-step : (f : ℕ → A) (i n : ℕ) (l : List A) → i < n → n ≡ length l
       → take (i + 1) (set l i (f i)) ++ tabulate f (i + 1) n ≡ take i l ++ tabulate f i n

@@ -1,0 +1,164 @@
+// The gravitational potential of a field and its first partial derivatives at points.
+pub mod local;
+pub mod points;
+pub mod sums;
+pub mod workspace;
+
+use coefficients::Head;
+use legendre::Latitude;
+use local::Partials;
+use local::Point;
+use refusal::Answer;
+use refusal::Refusal;
+ghost use mathlib.Core.Path.{_≡_};
+ghost use Prim.Native.Nat.{ℕ, _*_};
+ghost use lib.ListN.{length};
+ghost use Rattle.refusal.specs.Numbers.{after, behind};
+ghost use Rattle.storage.specs.Fill.{fill};
+ghost use Rattle.storage.specs.Rectangle.{byRows};
+ghost use Rattle.partials.specs.Point.{pointAt, pointIf, alongCell, workSize, partialsCheck, alongCheck};
+
+// The most points of a call.
+pub const MAX_POINTS: usize = 65535;
+
+// SIZE, LENGTH and SPACE, over the lengths of the lists.
+fn partials_check(nmax: usize, clen: usize, slen: usize, trig: usize, work: usize) -> Answer
+    ensures { λ x. ⌜ x ≡ partialsCheck nmax clen slen trig work ⌝ }
+{
+    match storage::tables_check(nmax, clen, slen) {
+        Answer::Refused(e) => Answer::Refused(e),
+        Answer::Done => {
+            if trig != nmax + nmax + 2 {
+                return Answer::Refused(Refusal::Length);
+            }
+            if work < 4 * clen {
+                return Answer::Refused(Refusal::Space);
+            }
+            Answer::Done
+        }
+    }
+}
+
+// The same for many points.
+fn along_check(
+    nmax: usize,
+    clen: usize,
+    slen: usize,
+    points: usize,
+    radii: usize,
+    lats: usize,
+    trig: usize,
+    work: usize,
+    out: usize,
+) -> Answer
+    ensures { λ x. ⌜ x ≡ alongCheck nmax clen slen points radii lats trig work out ⌝ }
+{
+    if points > MAX_POINTS {
+        return Answer::Refused(Refusal::Size);
+    }
+    match storage::tables_check(nmax, clen, slen) {
+        Answer::Refused(e) => Answer::Refused(e),
+        Answer::Done => {
+            if radii != points {
+                return Answer::Refused(Refusal::Length);
+            }
+            if lats != points + points {
+                return Answer::Refused(Refusal::Length);
+            }
+            if trig != points * (nmax + nmax + 2) {
+                return Answer::Refused(Refusal::Length);
+            }
+            if work < 4 * clen {
+                return Answer::Refused(Refusal::Space);
+            }
+            if out < 4 * points {
+                return Answer::Refused(Refusal::Space);
+            }
+            Answer::Done
+        }
+    }
+}
+
+// V and its derivatives at radius r and one latitude and longitude; `trig` has the cosine and the sine of m times the longitude for the orders m up
+// to N. Finite at the poles.
+pub fn partials(
+    head: Head,
+    c: &[f64],
+    s: &[f64],
+    r: f64,
+    latitude: Latitude,
+    trig: &[f64],
+    work: &mut [f64],
+) -> Point
+    ensures { λ x. ⌜ x ≡ pointIf
+        (partialsCheck (head .nmax) (length (now (c .entry))) (length (now (s .entry))) (length (now (trig .entry))) (length (now (work .entry))))
+        (pointAt (head .gm) (head .radius) (head .nmax) (now (c .entry)) (now (s .entry)) (now (trig .entry)) 0 r (latitude .t) (latitude .u)) ⌝ }
+    ensures { λ x. ⌜ behind
+        (partialsCheck (head .nmax) (length (now (c .entry))) (length (now (s .entry))) (length (now (trig .entry))) (length (now (work .entry))))
+        (workSize (head .nmax)) (now (work .exit))
+        ≡ behind
+        (partialsCheck (head .nmax) (length (now (c .entry))) (length (now (s .entry))) (length (now (trig .entry))) (length (now (work .entry))))
+        (workSize (head .nmax)) (now (work .entry)) ⌝ }
+    ensures { λ x. ⌜ length (now (work .exit)) ≡ length (now (work .entry)) ⌝ }
+{
+    match partials_check(head.nmax, c.len(), s.len(), trig.len(), work.len()) {
+        Answer::Refused(e) => Point::Refused(e),
+        Answer::Done => {
+            let radii = [r];
+            let latitudes = [latitude.t, latitude.u];
+            let mut out = [0.0; 4];
+            workspace::compute(head, c, s, 1, &radii, &latitudes, trig, work, &mut out);
+            Point::At(Partials {
+                v: out[0],
+                dr: out[1],
+                dlat: out[2],
+                dlon: out[3],
+            })
+        }
+    }
+}
+
+// The same at many points, four numbers each: V, ∂V/∂r, ∂V/∂φ, ∂V/∂λ. Each point has a radius, a pair of the latitude's sine and cosine, and the
+// cosines and sines of its longitude; the tables are worked out once.
+pub fn partials_along(
+    head: Head,
+    c: &[f64],
+    s: &[f64],
+    points: usize,
+    radii: &[f64],
+    latitudes: &[f64],
+    trig: &[f64],
+    work: &mut [f64],
+    out: &mut [f64],
+) -> Answer
+    ensures { λ x. ⌜ x ≡ alongCheck (head .nmax) (length (now (c .entry))) (length (now (s .entry))) points (length (now (radii .entry)))
+        (length (now (latitudes .entry))) (length (now (trig .entry))) (length (now (work .entry))) (length (now (out .entry))) ⌝ }
+    ensures { λ x. ⌜ now (out .exit) ≡ after x
+        (fill 0
+        (byRows
+        (alongCell (head .gm) (head .radius) (head .nmax) (now (c .entry)) (now (s .entry)) (now (trig .entry)) (now (radii .entry))
+        (now (latitudes .entry)))
+        4)
+        (points * 4) (now (out .entry)))
+        (now (out .entry)) ⌝ }
+    ensures { λ x. ⌜ behind x (workSize (head .nmax)) (now (work .exit)) ≡ behind x (workSize (head .nmax)) (now (work .entry)) ⌝ }
+    ensures { λ x. ⌜ length (now (work .exit)) ≡ length (now (work .entry)) ⌝ }
+{
+    match along_check(
+        head.nmax,
+        c.len(),
+        s.len(),
+        points,
+        radii.len(),
+        latitudes.len(),
+        trig.len(),
+        work.len(),
+        out.len(),
+    ) {
+        Answer::Refused(e) => Answer::Refused(e),
+        Answer::Done => {
+            workspace::compute(head, c, s, points, radii, latitudes, trig, work, out);
+            Answer::Done
+        }
+    }
+}
