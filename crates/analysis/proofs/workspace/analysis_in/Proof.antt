@@ -1,0 +1,42 @@
+-- `workspace::analysis_in` meets its contract: the sums over the rows, then the division. Assumes nothing.
+use Rattle.analysis.specs.Promise.{made}
+use Rattle.functional.specs.Factor.{factorOf}
+use borrow.Author.Needs.{needs}
+use native.Mathlib.Omega.{arith}
+use Rattle.analysis.proofs.workspace.analysis_in.Statement.{statement}
+use Rattle.analysis.proofs.workspace.analysis_in.Tie as tie
+
+sum-rows-requires : tie.Need-sum-rows-requires
+sum-rows-requires c κs =
+    let c1 = c .before .before .before .before .before .before .before .before .before .before .before .before in
+    let q = c1 .before .before .before .before .before .before .before .before .before .before .pre in
+    (q .0, q .1 .1)
+
+divide-requires : tie.Need-divide-requires
+divide-requires c κs =
+    let c1 = c .before .before .before .before .before .before .before .before .before .before .before .before in
+    let c2 = c1 .before .before .before .before .before .before .before .before .before .before .before .before in
+    let c3 = c2 .before .before .before .before .before .before .before .before .before .before .before .before in
+    let q = c3 .before .before .before .before .before .before .pre in
+    let k = q .0 in
+    let e = c1 .before .before .before .before .before .before .before .sum-rows .ensures in
+    (k .top, (q .1 .0, (omega (arith, k .room-c, e .of-c .long), omega (arith, k .room-s, e .of-s .long))))
+
+returns : tie.Need-returns
+returns c =
+    let c1 = c .before .before .before .before .before .before .before .before .before .before .before .before in
+    let c2 = c1 .before .before .before .before .before .before .before .before .before .before .before .before in
+    let c3 = c2 .before .before .before .before .before .before .before .before .before .before .before .before in
+    let c4 = c3 .before .before .before .before .before .before .before .before .before .before .before .before in
+    let a = c4 .before .args in
+    let k = c4 .before .pre .0 in
+    let g = factorOf (a .functional) (a .love .now) (a .gm) (a .radius) (a .r) in
+    let e = c2 .before .before .sum-rows .ensures in
+    let (dc, ds) = c .before .before .before .before .before .before .divide .ensures in
+    made (a .values .now) (a .weights .now) (a .latitudes .now) (a .trig .now) (a .nmax) g e dc ds (k .room-c) (k .room-s)
+
+pub analysis-in-spec : {M : Type 1} → statement M
+analysis-in-spec =
+    tie.close
+    (tie.spec sum-rows-requires divide-requires (λ c. search needs) (λ c. search needs) (λ c. search needs) (λ c. search needs) (λ c. search needs)
+    (λ c. search needs) (λ c. search needs) (λ c. search needs) (λ c. search needs) returns)
