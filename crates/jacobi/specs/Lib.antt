@@ -1,0 +1,2 @@
+pub mod Jacobi
+pub mod JacobiLaws

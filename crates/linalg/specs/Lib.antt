@@ -1,0 +1,4 @@
+pub mod Eigen
+pub mod Sizes
+pub mod EigenLaws
+pub mod Checks

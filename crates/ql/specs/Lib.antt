@@ -1,0 +1,2 @@
+pub mod Ql
+pub mod QlLaws
