@@ -1,0 +1,5 @@
+pub mod Caps
+pub mod Grunbaum
+pub mod Columns
+pub mod Nodes
+pub mod Quotients
