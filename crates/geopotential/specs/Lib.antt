@@ -3,3 +3,5 @@ pub mod Models
 pub mod Files
 pub mod Marked
 pub mod Fields
+pub mod Points
+pub mod Analyses

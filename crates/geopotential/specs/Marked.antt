@@ -2,7 +2,8 @@
 use mathlib.Core.Path.{_≡_, refl}
 use mathlib.Core.List.{List, [], _∷_}
 use Prim.Native.Nat.{ℕ}
-use lib.Ieee.{Float, ofBits, ofInt, neg, add, sub, mul, div, le, lt, eq, isNan}
+use lib.ListN.{getD}
+use lib.Ieee.{Float, nan, ofBits, ofInt, neg, add, sub, mul, div, le, lt, eq, isNan}
 use Rattle.number.specs.Float64.{double, one64}
 use Rattle.number.specs.Root.{rootOf, squareRoot}
 use Rattle.number.specs.Sign.{isInfinite, magnitudeOf}
@@ -12,6 +13,12 @@ use Rattle.functional.specs.Factor.{factorOf}
 use Rattle.functional.specs.declared.Functional.the-variants.{Potential, GravityAnomaly, RadialGradient}
 use Rattle.storage.specs.Triangle.{idx, rowStart}
 use Rattle.storage.specs.Iterate.{turns, iterate, iterateUntil}
+use Rattle.storage.specs.Tabulate.{tabulate, values}
+use Rattle.storage.specs.Rectangle.{byRows}
+use Rattle.matrix.specs.Matrix.{cell, matrixOf, kronecker, identity, diagonalCell, diagonal}
+use Rattle.jacobi.specs.Jacobi.{addSquare, squares, addOffSquare, addOffRow, offSquares, isSmall, sweepUnlessSmall, settledIn, matrixIn, productIn}
+use Rattle.jacobi.specs.Jacobi.{sweeps, jacobi, jacobiValues, jacobiVectors}
+use Rattle.linalg.specs.Eigen.{eigenValues, eigenVectors}
 use Rattle.quadrature.specs.Gauss.{bonnetTurn, legendre, corrected, newtonStep, legendreRoot, upperNode, upperWeight, gaussNode, gaussWeight}
 
 -- a value is a double or a whole number
@@ -33,6 +40,9 @@ stated (r ∷ l) = r .1 ∷ stated l
 
 abbrev two : Float
 two = double 0x4000_0000_0000_0000
+
+abbrev seven : Float
+seven = double 0x401c_0000_0000_0000
 
 abbrev eight : Float
 eight = double 0x4020_0000_0000_0000
@@ -59,8 +69,14 @@ table =
     -- Gauss with n 1 and guess 2^−54 has node +0 and weight 2
     ∷ (number (gaussNode (λ i. double 0x3c90_0000_0000_0000) 1 0), number (double 0))
     ∷ (number (gaussWeight (λ i. double 0x3c90_0000_0000_0000) 1 0), number two)
+    -- the one-cell matrix 7 has value 7 and vector 1
+    ∷ (number (getD (eigenValues 1 (seven ∷ [])) 0 nan), number seven)
+    ∷ (number (getD (eigenVectors 1 (seven ∷ [])) 0 nan), number one64)
     ∷ []
 
 pub marked : worked table ≡ stated table
-unfolding table gaussNode gaussWeight upperNode upperWeight legendreRoot newtonStep corrected legendre bonnetTurn iterateUntil iterate turns neg le squareRoot hypotOf longOf ofSizes isInfinite magnitudeOf isNan rowStart factorOf powerOf powerTurns timesIfOdd squareUnlessZero ofBits ofInt add sub mul div lt eq
+unfolding table gaussNode gaussWeight upperNode upperWeight legendreRoot newtonStep corrected legendre bonnetTurn iterateUntil iterate turns neg le squareRoot
+    hypotOf longOf ofSizes isInfinite magnitudeOf isNan rowStart factorOf powerOf powerTurns timesIfOdd squareUnlessZero ofBits ofInt add sub mul div lt eq
+    eigenValues eigenVectors jacobiValues jacobiVectors jacobi sweeps matrixIn productIn settledIn sweepUnlessSmall isSmall offSquares addOffRow addOffSquare
+    squares addSquare diagonal diagonalCell identity kronecker matrixOf cell byRows tabulate values
 marked = refl

@@ -3,9 +3,12 @@
 // Parameters stand in the order of the Rattle call; a list is a pointer and then its length; a small record goes field by field; an enum
 // is its number; a single number that is answered goes through a pointer at the end and is left alone on a refusal; the result is the
 // refusal's number, 0 where the call is done. Calls that can't refuse return their number.
+mod analyses;
 mod fields;
 mod files;
 mod functionals;
+mod matrices;
 mod models;
 mod numbers;
+mod points;
 mod tables;
