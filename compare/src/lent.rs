@@ -2,6 +2,8 @@
 
 use core::f64::consts::TAU;
 
+use crate::cases::Cases;
+
 /// A latitude (radians) as its sine and cosine.
 pub fn pair(lat: f64) -> (f64, f64) {
     lat.sin_cos()
@@ -22,4 +24,23 @@ pub fn analysis_orders(nmax: usize) -> Vec<(f64, f64)> {
 /// The pairs of the L+1 Gauss–Legendre `nodes` carried over to a cap with the cosine `x0`.
 pub fn cap_pairs(x0: f64, nodes: &[f64]) -> Vec<(f64, f64)> {
     nodes.iter().map(|x| pair((x0 + (1.0 - x0) * (x + 1.0) / 2.0).asin())).collect()
+}
+
+/// A latitude, or any pair.
+pub fn latitude(cases: &mut Cases) -> (f64, f64) {
+    match cases.below(6) {
+        0 => (cases.number(), cases.number()),
+        1 => [(1.0, 0.0), (-1.0, 0.0), (0.0, 1.0), (1e300, 0.0)][cases.below(4) as usize],
+        _ => pair(3.2 * cases.fraction() - 1.6),
+    }
+}
+
+/// The cosines and sines of one longitude, or any numbers.
+pub fn longitude(cases: &mut Cases, nmax: usize) -> Vec<(f64, f64)> {
+    if cases.below(6) == 0 { (0..=nmax).map(|_| (cases.number(), cases.number())).collect() } else { orders(6.3 * cases.fraction(), nmax) }
+}
+
+/// Pairs end to end, as a call is lent them.
+pub fn flat(pairs: &[(f64, f64)]) -> Vec<f64> {
+    pairs.iter().flat_map(|&(x, y)| [x, y]).collect()
 }

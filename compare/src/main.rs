@@ -1,5 +1,6 @@
 //! Holds the proved library against the oracle, the published Rust with document 01's stand-ins.
 
+mod analysis;
 mod cases;
 mod coefficients;
 mod constants;
@@ -8,10 +9,12 @@ mod functional;
 mod guarded;
 mod legendre;
 mod lent;
+mod linalg;
 mod margins;
 mod model_file;
 mod number;
 mod oracle_check;
+mod partials;
 mod refusal;
 mod sizes;
 mod slepian;
@@ -31,7 +34,7 @@ usage: compare [--seed NUMBER] [--quick] [SUBJECT...]   same bits as the oracle,
        compare bench [SUBJECT...]                       ours, the Rust's, their ratio
        compare replay SUBJECT FILE                      write the oracle's answers as Rattle constants
        compare margins FILE [COUNT [SEED]]              write values and their sums' numbers, for margins.py
-subjects: number, functional, coefficients, model_file, legendre, synthesis, slepian";
+subjects: number, functional, coefficients, model_file, legendre, synthesis, partials, analysis, linalg, slepian";
 
 /// One crate of the library: what can be done with it here.
 struct Subject {
@@ -53,6 +56,9 @@ const SUBJECTS: &[Subject] = &[
     Subject { name: "model_file", compare: model_file::compare, bench: model_file::bench::bench, replay: model_file::replay::replay },
     Subject { name: "legendre", compare: legendre::compare, bench: legendre::bench::bench, replay: legendre::replay::replay },
     Subject { name: "synthesis", compare: synthesis::compare, bench: synthesis::bench::bench, replay: synthesis::replay::replay },
+    Subject { name: "partials", compare: partials::compare, bench: partials::bench::bench, replay: partials::replay::replay },
+    Subject { name: "analysis", compare: analysis::compare, bench: analysis::bench::bench, replay: analysis::replay::replay },
+    Subject { name: "linalg", compare: linalg::compare, bench: linalg::bench::bench, replay: linalg::replay::replay },
     Subject { name: "slepian", compare: slepian::compare, bench: slepian::bench::bench, replay: slepian::replay::replay },
 ];
 

@@ -4,6 +4,9 @@ use std::hint::black_box;
 use std::time::Instant;
 
 const ROUNDS: usize = 21;
+/// Work of more than half a second is timed fewer times.
+const LONG: f64 = 0.5e9;
+const FEW_ROUNDS: usize = 3;
 
 pub fn header() {
     println!("{:<36}{:>12}{:>12}{:>12}", "ns a call, median", "ours", "Rust", "ours/Rust");
@@ -21,9 +24,9 @@ fn medians<A>(mut ours: impl FnMut() -> A, mut rust: impl FnMut() -> A) -> (f64,
         black_box(work());
         start.elapsed().as_nanos() as f64
     };
-    time(&mut ours);
-    time(&mut rust);
-    let (ours, rust): (Vec<f64>, Vec<f64>) = (0..ROUNDS).map(|_| (time(&mut ours), time(&mut rust))).unzip();
+    let first = time(&mut ours).max(time(&mut rust));
+    let rounds = if first > LONG { FEW_ROUNDS } else { ROUNDS };
+    let (ours, rust): (Vec<f64>, Vec<f64>) = (0..rounds).map(|_| (time(&mut ours), time(&mut rust))).unzip();
     (median(ours), median(rust))
 }
 

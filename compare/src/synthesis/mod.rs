@@ -10,7 +10,7 @@ use crate::coefficients::fields::field;
 use crate::entries::*;
 use crate::functional::{NO_FUNCTIONALS, WATER_HEIGHT, functional};
 use crate::guarded::Guarded;
-use crate::lent::{orders, pair};
+use crate::lent::{latitude, longitude};
 use crate::refusal::{BEYOND, Checks, NO_FUNCTIONAL, SIZE, answered, fault, pairs};
 use crate::sizes::table;
 use crate::tally::{Report, Tally, shown};
@@ -107,20 +107,6 @@ impl<'a> Call<'a> {
             format!("functional {number}, gm, radius, r {head:?}, N {nmax}, {rows} rows, {columns} longitudes, lengths {lengths:?}")
         });
     }
-}
-
-/// A latitude, or any pair.
-fn latitude(cases: &mut Cases) -> (f64, f64) {
-    match cases.below(6) {
-        0 => (cases.number(), cases.number()),
-        1 => [(1.0, 0.0), (-1.0, 0.0), (0.0, 1.0), (1e300, 0.0)][cases.below(4) as usize],
-        _ => pair(3.2 * cases.fraction() - 1.6),
-    }
-}
-
-/// The cosines and sines of one longitude, or any numbers.
-fn longitude(cases: &mut Cases, nmax: usize) -> Vec<(f64, f64)> {
-    if cases.below(6) == 0 { (0..=nmax).map(|_| (cases.number(), cases.number())).collect() } else { orders(6.3 * cases.fraction(), nmax) }
 }
 
 /// A grid of these sizes, of a random field.

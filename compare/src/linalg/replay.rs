@@ -1,0 +1,38 @@
+//! The oracle's eigenvalues and eigenvectors of edge matrices, and of all ones on either side of n = 32.
+
+use super::{SOLVERS, edges};
+use crate::constants::{array, number};
+
+pub fn replay() -> String {
+    let mut text = String::from("// The oracle's answers for the crate linalg, numbers as bit patterns.\n");
+    text += "// Written by `compare/run replay linalg FILE` (see compare/README.md), never by hand.\n";
+    let small: Vec<(usize, Vec<f64>)> = edges().into_iter().filter(|&(n, _)| n > 0 && n <= 5).collect();
+    for size in 1..=5 {
+        let all: Vec<&Vec<f64>> = small.iter().filter(|(n, _)| *n == size).map(|(_, a)| a).collect();
+        let mut list = |comment: &str, name: &str, numbers: Vec<f64>| {
+            text += &array(comment, name, &numbers.iter().map(|&x| number(x)).collect::<Vec<_>>());
+        };
+        list(
+            &format!("{} matrices of {size} rows, one after the other", all.len()),
+            &format!("MATRICES_{size}"),
+            all.iter().flat_map(|a| a.iter().copied()).collect(),
+        );
+        for (name, _, oracle) in SOLVERS {
+            let answers = all.iter().flat_map(|a| {
+                let (values, vectors) = oracle(a, size);
+                [values, vectors].concat()
+            });
+            list(&format!("{name}: values, then vectors, of each"), &format!("{}_{size}", name.to_uppercase()), answers.collect());
+        }
+    }
+    // All ones, where the two methods meet: 32 rows by rotations, 33 by reflections.
+    for n in [32, 33] {
+        let (values, _) = (SOLVERS[0].2)(&vec![1.0; n * n], n);
+        text += &array(
+            &format!("symmetric_eigen of {n} rows of ones: its values"),
+            &format!("ONES_{n}"),
+            &values.iter().map(|&x| number(x)).collect::<Vec<_>>(),
+        );
+    }
+    text
+}
