@@ -291,6 +291,23 @@ unsafe extern "C" {
         vectors: *mut f64,
         vectors_len: usize,
     ) -> u32;
+    /// The Slepian functions of a polar cap, best concentrated first: orders, concentrations, and the vectors end to end.
+    pub fn geopotential_polar_cap(
+        lmax: usize,
+        cosine: f64,
+        weights: *const f64,
+        weights_len: usize,
+        latitudes: *const f64,
+        latitudes_len: usize,
+        work: *mut f64,
+        work_len: usize,
+        orders: *mut f64,
+        orders_len: usize,
+        concentrations: *mut f64,
+        concentrations_len: usize,
+        vectors: *mut f64,
+        vectors_len: usize,
+    ) -> u32;
     pub fn geopotential_basin_average(
         gm: f64,
         radius: f64,

@@ -3,13 +3,41 @@
 use oracle::Coefficients;
 use oracle::slepian::basin_average;
 
+use super::caps::{Cap, lengths, work_size};
 use crate::cases::Cases;
 use crate::entries::*;
 use crate::functional::{EARTH, functional};
+use crate::lent::flat;
 use crate::sizes::table;
-use crate::timing::race;
+use crate::timing::{allocated, race, repeat};
 
 pub fn bench() {
+    averages();
+    for (lmax, calls) in [(2, 50), (18, 4), (60, 1), (180, 1)] {
+        cap(lmax, calls);
+    }
+}
+
+fn cap(lmax: usize, calls: usize) {
+    let cap = Cap::of(lmax, 0.7);
+    let pairs = flat(&cap.latitudes);
+    let (functions, numbers) = lengths(lmax);
+    let (functions, numbers) = (functions as usize, numbers as usize);
+    let (mut work, mut vectors) = (vec![0.0; work_size(lmax) as usize], vec![0.0; numbers]);
+    let (mut orders, mut concentrations) = (vec![0.0; functions], vec![0.0; functions]);
+    let wide = work.len();
+    let ours = || {
+        repeat(calls, || unsafe {
+            let (w, l) = ((cap.weights.as_ptr(), cap.weights.len()), (pairs.as_ptr(), pairs.len()));
+            let (o, c) = (orders.as_mut_ptr(), concentrations.as_mut_ptr());
+            let (f, v) = (work.as_mut_ptr(), vectors.as_mut_ptr());
+            geopotential_polar_cap(lmax, cap.cosine, w.0, w.1, l.0, l.1, f, wide, o, functions, c, functions, v, numbers)
+        })
+    };
+    race(&format!("polar_cap L = {lmax}"), calls, ours, || repeat(calls, || allocated(cap.oracle())));
+}
+
+fn averages() {
     for (nmax, calls) in [(96, 200), (2700, 1)] {
         let mut cases = Cases::new(1, 1);
         let (gm, radius, _) = EARTH;

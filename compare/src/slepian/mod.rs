@@ -1,6 +1,7 @@
-//! The crate `slepian` against the oracle's `basin_average`.
+//! The crate `slepian` against the oracle's `basin_average` and `polar_cap`.
 
 pub mod bench;
+mod caps;
 pub mod replay;
 
 use oracle::Coefficients;
@@ -21,6 +22,8 @@ const COUNT: u64 = 40_000;
 pub fn compare(report: &mut Report) {
     report.call("slepian.basin_average", averages);
     report.call("slepian.refusals", refusals);
+    report.call("slepian.polar_cap", caps::caps);
+    report.call("slepian.polar_cap, refusals", caps::refusals);
 }
 
 /// One call: the functional's number, its Love numbers, r, and the degrees and lengths that the call is given.

@@ -1,11 +1,13 @@
-//! The oracle's averages of fields of degree 3 over kernels of degree 2.
+//! The oracle's averages of fields of degree 3 over kernels of degree 2, and its small polar caps.
 
 use oracle::Coefficients;
 use oracle::slepian::basin_average;
 
+use super::caps::Cap;
 use crate::coefficients::fields::fixed;
 use crate::constants::{array, number};
 use crate::functional::functional;
+use crate::lent::flat;
 
 const LOVE: [f64; 4] = [0.0, 0.021, -0.303, -0.194];
 
@@ -33,6 +35,19 @@ pub fn replay() -> String {
         list("its s", &format!("{prefix}KERNEL_S"), &kernel.s);
         let averages: Vec<f64> = (0..6).map(|k| basin_average(&field, &kernel, &functional(k, &LOVE), 6378200.0)).collect();
         list("the averages of the six functionals at r 6378200", &format!("{prefix}AVERAGES"), &averages);
+    }
+    for lmax in [0, 1, 2, 18] {
+        let cap = Cap::of(lmax, 0.7);
+        let functions = cap.oracle();
+        list(&format!("a cap of 0.7 rad, L {lmax}: its cosine"), &format!("CAP_{lmax}_COSINE"), &[cap.cosine]);
+        list("the weights", &format!("CAP_{lmax}_WEIGHTS"), &cap.weights);
+        list("the latitudes, sine and cosine", &format!("CAP_{lmax}_LATITUDES"), &flat(&cap.latitudes));
+        let orders: Vec<f64> = functions.iter().map(|f| f.m as f64).collect();
+        let concentrations: Vec<f64> = functions.iter().map(|f| f.concentration).collect();
+        // Of a large cap the vectors are left out.
+        let vectors = functions.iter().filter(|_| lmax <= 2).flat_map(|f| f.coefficients.iter().copied());
+        let answer: Vec<f64> = orders.into_iter().chain(concentrations).chain(vectors).collect();
+        list("orders, then concentrations, then vectors up to L 2", &format!("CAP_{lmax}"), &answer);
     }
     text
 }

@@ -4,6 +4,7 @@
 // is its number; a single number that is answered goes through a pointer at the end and is left alone on a refusal; the result is the
 // refusal's number, 0 where the call is done. Calls that can't refuse return their number.
 mod analyses;
+mod caps;
 mod fields;
 mod files;
 mod functionals;

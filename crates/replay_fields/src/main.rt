@@ -1,5 +1,5 @@
-// Replays the oracle's answers for the crates synthesis (grids.rt) and slepian (averages.rt): a line for each group, how many of our answers
-// have the oracle's bits.
+// Replays the oracle's answers for the crates synthesis (grids.rt), slepian and polar_cap (averages.rt): a line for each group, how many of our
+// answers have the oracle's bits.
 mod averages;
 mod grids;
 
@@ -139,6 +139,169 @@ fn print_averages(
     print(b"basin_average ", right, 6);
 }
 
+// The cap to degree 0.
+fn print_cap_0() {
+    let cosine = number::number_of_bits(averages::CAP_0_COSINE[0]);
+    let mut weights = [0.0; 1];
+    let mut latitudes = [0.0; 2];
+    replay::load(&averages::CAP_0_WEIGHTS, 0, &mut weights);
+    replay::load(&averages::CAP_0_LATITUDES, 0, &mut latitudes);
+    let mut work = [0.0; 15];
+    let mut orders = [0.0; 1];
+    let mut concentrations = [0.0; 1];
+    let mut vectors = [0.0; 1];
+    match polar_cap::polar_cap(
+        0,
+        cosine,
+        &weights,
+        &latitudes,
+        &mut work,
+        &mut orders,
+        &mut concentrations,
+        &mut vectors,
+    ) {
+        Answer::Done => {
+            print(
+                b"cap orders ",
+                replay::same(&orders, &averages::CAP_0, 0),
+                1,
+            );
+            print(
+                b"cap concentrations ",
+                replay::same(&concentrations, &averages::CAP_0, 1),
+                1,
+            );
+            print(
+                b"cap vectors ",
+                replay::same(&vectors, &averages::CAP_0, 2),
+                1,
+            );
+        }
+        Answer::Refused(_) => print(b"cap refused ", 0, 1),
+    }
+}
+
+// The cap to degree 1.
+fn print_cap_1() {
+    let cosine = number::number_of_bits(averages::CAP_1_COSINE[0]);
+    let mut weights = [0.0; 2];
+    let mut latitudes = [0.0; 4];
+    replay::load(&averages::CAP_1_WEIGHTS, 0, &mut weights);
+    replay::load(&averages::CAP_1_LATITUDES, 0, &mut latitudes);
+    let mut work = [0.0; 46];
+    let mut orders = [0.0; 3];
+    let mut concentrations = [0.0; 3];
+    let mut vectors = [0.0; 5];
+    match polar_cap::polar_cap(
+        1,
+        cosine,
+        &weights,
+        &latitudes,
+        &mut work,
+        &mut orders,
+        &mut concentrations,
+        &mut vectors,
+    ) {
+        Answer::Done => {
+            print(
+                b"cap orders ",
+                replay::same(&orders, &averages::CAP_1, 0),
+                3,
+            );
+            print(
+                b"cap concentrations ",
+                replay::same(&concentrations, &averages::CAP_1, 3),
+                3,
+            );
+            print(
+                b"cap vectors ",
+                replay::same(&vectors, &averages::CAP_1, 6),
+                5,
+            );
+        }
+        Answer::Refused(_) => print(b"cap refused ", 0, 3),
+    }
+}
+
+// The cap to degree 2.
+fn print_cap_2() {
+    let cosine = number::number_of_bits(averages::CAP_2_COSINE[0]);
+    let mut weights = [0.0; 3];
+    let mut latitudes = [0.0; 6];
+    replay::load(&averages::CAP_2_WEIGHTS, 0, &mut weights);
+    replay::load(&averages::CAP_2_LATITUDES, 0, &mut latitudes);
+    let mut work = [0.0; 95];
+    let mut orders = [0.0; 6];
+    let mut concentrations = [0.0; 6];
+    let mut vectors = [0.0; 14];
+    match polar_cap::polar_cap(
+        2,
+        cosine,
+        &weights,
+        &latitudes,
+        &mut work,
+        &mut orders,
+        &mut concentrations,
+        &mut vectors,
+    ) {
+        Answer::Done => {
+            print(
+                b"cap orders ",
+                replay::same(&orders, &averages::CAP_2, 0),
+                6,
+            );
+            print(
+                b"cap concentrations ",
+                replay::same(&concentrations, &averages::CAP_2, 6),
+                6,
+            );
+            print(
+                b"cap vectors ",
+                replay::same(&vectors, &averages::CAP_2, 12),
+                14,
+            );
+        }
+        Answer::Refused(_) => print(b"cap refused ", 0, 6),
+    }
+}
+
+// The cap to degree 18.
+fn print_cap_18() {
+    let cosine = number::number_of_bits(averages::CAP_18_COSINE[0]);
+    let mut weights = [0.0; 19];
+    let mut latitudes = [0.0; 38];
+    replay::load(&averages::CAP_18_WEIGHTS, 0, &mut weights);
+    replay::load(&averages::CAP_18_LATITUDES, 0, &mut latitudes);
+    let mut work = [0.0; 4959];
+    let mut orders = [0.0; 190];
+    let mut concentrations = [0.0; 190];
+    let mut vectors = [0.0; 2470];
+    match polar_cap::polar_cap(
+        18,
+        cosine,
+        &weights,
+        &latitudes,
+        &mut work,
+        &mut orders,
+        &mut concentrations,
+        &mut vectors,
+    ) {
+        Answer::Done => {
+            print(
+                b"cap orders ",
+                replay::same(&orders, &averages::CAP_18, 0),
+                190,
+            );
+            print(
+                b"cap concentrations ",
+                replay::same(&concentrations, &averages::CAP_18, 190),
+                190,
+            );
+        }
+        Answer::Refused(_) => print(b"cap refused ", 0, 190),
+    }
+}
+
 fn main() {
     print_grid(
         Functional::GeoidHeight,
@@ -178,4 +341,8 @@ fn main() {
         &averages::SPECIAL_KERNEL_S,
         &averages::SPECIAL_AVERAGES,
     );
+    print_cap_0();
+    print_cap_1();
+    print_cap_2();
+    print_cap_18();
 }

@@ -1,0 +1,88 @@
+-- The Slepian functions of a polar cap, best concentrated first (Simons, Dahlen & Wieczorek 2006), and the checks of the call. Definitions only.
+use mathlib.Core.Bool.{Bool, not}
+use mathlib.Core.List.{List, [], _++_, map, flatten}
+use Prim.Native.Nat.{ℕ, zero, suc, _+_, _*_, _/_}
+use lib.Dec.{ltb, eqb}
+use lib.Ieee.{Float}
+use Rattle.refusal.specs.Numbers.{refuse}
+use Rattle.refusal.specs.declared.Answer.{Answer}
+use Rattle.refusal.specs.declared.Answer.the-variants.{Done}
+use Rattle.refusal.specs.declared.Refusal.the-variants.{Size, Length, Space}
+use Rattle.number.specs.Float64.{ofWhole}
+use Rattle.number.specs.Order.{ranksBefore}
+use Rattle.number.specs.Ranking.{ranking}
+use Rattle.storage.specs.Tabulate.{tabulate}
+use Rattle.storage.specs.Triangle.{tableSize}
+use Rattle.matrix.specs.Matrix.{cell}
+use Rattle.linalg.specs.Eigen.{eigenVectors}
+use Rattle.caps.specs.Caps.{degrees, concentration, grunbaum, rayleigh}
+
+-- ---- the functions: (m, col) is the one of order m in column col of that order's vectors
+unfoldable pub inColumn : ℕ → ℕ → ℕ × ℕ
+inColumn m col = (m, col)
+
+-- those of the orders below m, order after order, column after column
+unfoldable pub functionsBelow : ℕ → ℕ → List (ℕ × ℕ)
+functionsBelow L zero = []
+functionsBelow L (suc m) = functionsBelow L m ++ tabulate (inColumn m) 0 (degrees L m)
+
+unfoldable pub functions : ℕ → List (ℕ × ℕ)
+functions L = functionsBelow L (L + 1)
+
+-- the vectors of order m are the columns of a matrix: the eigenvectors of Grünbaum's
+unfoldable pub vectorsOf : ℕ → Float → ℕ → List Float
+vectorsOf L x₀ m = eigenVectors (degrees L m) (grunbaum L m x₀)
+
+-- a function's coefficients, for the degrees l = m .. L
+unfoldable pub coefficient : ℕ → Float → ℕ × ℕ → ℕ → Float
+coefficient L x₀ p i = cell (degrees L (p .0)) (vectorsOf L x₀ (p .0)) i (p .1)
+
+unfoldable pub coefficients : ℕ → Float → ℕ × ℕ → List Float
+coefficients L x₀ p = tabulate (coefficient L x₀ p) 0 (degrees L (p .0))
+
+unfoldable pub orderOf : ℕ × ℕ → Float
+orderOf p = ofWhole (p .0)
+
+module _ (L : ℕ) (x₀ : Float) (weights lats : List Float) where
+  -- its concentration: Rayleigh's quotient with the concentration matrix of its order
+  unfoldable pub concentrationIn : ℕ → ℕ → Float
+  concentrationIn m col = rayleigh (degrees L m) (concentration L m x₀ weights lats) (vectorsOf L x₀ m) col
+
+  unfoldable pub concentrationOf : ℕ × ℕ → Float
+  concentrationOf p = concentrationIn (p .0) (p .1)
+
+  unfoldable pub betterThan : ℕ × ℕ → ℕ × ℕ → Bool
+  betterThan p q = ranksBefore (concentrationOf p) (concentrationOf q)
+
+  -- all functions, the best concentrated first, equals as they stand
+  unfoldable pub ranked : List (ℕ × ℕ)
+  ranked = ranking betterThan (functions L)
+
+  -- the answer: the orders as numbers, the concentrations, and the coefficients end to end
+  unfoldable pub capOrders : List Float
+  capOrders = map orderOf ranked
+
+  unfoldable pub capConcentrations : List Float
+  capConcentrations = map concentrationOf ranked
+
+  unfoldable pub capVectors : List Float
+  capVectors = flatten (map (coefficients L x₀) ranked)
+
+-- ---- the checks
+-- how many numbers all vectors have; there are as many functions as entries in a table up to degree L
+unfoldable pub vectorsSize : ℕ → ℕ
+vectorsSize L = (L + 1) * (L + 2) * (2 * L + 3) / 6
+
+-- how many numbers of the working list are used: 3T + 4k² + 5k with k = L + 1, and the three lengths of the answer
+unfoldable pub capWork : ℕ → ℕ
+capWork L = 3 * tableSize L + 4 * ((L + 1) * (L + 1)) + 5 * (L + 1) + tableSize L + tableSize L + vectorsSize L
+
+-- SIZE of the degree; LENGTH of the weights and the pairs of the latitudes; SPACE of the working list and the three outputs
+unfoldable pub capCheck : (L weights lats work orders concentrations vectors : ℕ) → Answer
+capCheck L weights lats work orders concentrations vectors =
+    refuse (ltb 180 L) Size
+    (refuse (not (eqb weights (L + 1))) Length
+    (refuse (not (eqb lats (L + 1 + (L + 1)))) Length
+    (refuse (ltb work (capWork L)) Space
+    (refuse (ltb orders (tableSize L)) Space
+    (refuse (ltb concentrations (tableSize L)) Space (refuse (ltb vectors (vectorsSize L)) Space Done))))))

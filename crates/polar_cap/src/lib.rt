@@ -1,0 +1,67 @@
+// The Slepian functions of a polar cap, best concentrated first (Simons, Dahlen & Wieczorek 2006).
+pub mod cap;
+pub mod polar;
+pub mod ranked;
+
+use refusal::Answer;
+ghost use mathlib.Core.Path.{_≡_};
+ghost use lib.ListN.{length};
+ghost use lib.Ieee.{nan};
+ghost use Rattle.refusal.specs.Numbers.{after, behind};
+ghost use Rattle.storage.specs.Elements.{from};
+ghost use Rattle.storage.specs.Fill.{fill};
+ghost use Rattle.storage.specs.Triangle.{tableSize};
+ghost use Rattle.polar_cap.specs.PolarCap.{capCheck, capWork, capOrders, capConcentrations, capVectors, vectorsSize};
+
+// The Slepian functions to degree lmax of the polar cap whose angle has this cosine, best concentrated first: their orders, their concentrations, and
+// their coefficients of P(l, m) for l = m to lmax, end to end. The weights and the latitudes are those of the nodes over the cap.
+pub fn polar_cap(
+    lmax: usize,
+    cosine: f64,
+    weights: &[f64],
+    latitudes: &[f64],
+    work: &mut [f64],
+    orders: &mut [f64],
+    concentrations: &mut [f64],
+    vectors: &mut [f64],
+) -> Answer
+    ensures { λ x. ⌜ x ≡ capCheck lmax (length (now (weights .entry))) (length (now (latitudes .entry))) (length (now (work .entry)))
+        (length (now (orders .entry))) (length (now (concentrations .entry))) (length (now (vectors .entry))) ⌝ }
+    ensures { λ x. ⌜ now (orders .exit) ≡ after x
+        (fill 0 (from 0 (capOrders lmax cosine (now (weights .entry)) (now (latitudes .entry))) nan) (tableSize lmax) (now (orders .entry)))
+        (now (orders .entry)) ⌝ }
+    ensures { λ x. ⌜ now (concentrations .exit) ≡ after x
+        (fill 0 (from 0 (capConcentrations lmax cosine (now (weights .entry)) (now (latitudes .entry))) nan) (tableSize lmax)
+        (now (concentrations .entry)))
+        (now (concentrations .entry)) ⌝ }
+    ensures { λ x. ⌜ now (vectors .exit) ≡ after x
+        (fill 0 (from 0 (capVectors lmax cosine (now (weights .entry)) (now (latitudes .entry))) nan) (vectorsSize lmax) (now (vectors .entry)))
+        (now (vectors .entry)) ⌝ }
+    ensures { λ x. ⌜ behind x (capWork lmax) (now (work .exit)) ≡ behind x (capWork lmax) (now (work .entry)) ⌝
+        ∗ ⌜ length (now (work .exit)) ≡ length (now (work .entry)) ⌝ }
+{
+    match polar::cap_check(
+        lmax,
+        weights.len(),
+        latitudes.len(),
+        work.len(),
+        orders.len(),
+        concentrations.len(),
+        vectors.len(),
+    ) {
+        Answer::Refused(e) => Answer::Refused(e),
+        Answer::Done => {
+            polar::compute(
+                lmax,
+                cosine,
+                weights,
+                latitudes,
+                work,
+                orders,
+                concentrations,
+                vectors,
+            );
+            Answer::Done
+        }
+    }
+}
