@@ -1,4 +1,4 @@
-//! The oracle's eigenvalues and eigenvectors of edge matrices, and of all ones on either side of n = 32.
+//! The oracle's eigenvalues and eigenvectors of edge matrices, and its eigenvalues of all ones about n = 32.
 
 use super::{SOLVERS, edges};
 use crate::constants::{array, number};
@@ -25,8 +25,8 @@ pub fn replay() -> String {
             list(&format!("{name}: values, then vectors, of each"), &format!("{}_{size}", name.to_uppercase()), answers.collect());
         }
     }
-    // All ones, where the two methods meet: 32 rows by rotations, 33 by reflections.
-    for n in [32, 33] {
+    // All ones, where the two methods meet: up to 32 rows by rotations, 33 by reflections.
+    for n in 27..=33 {
         let (values, _) = (SOLVERS[0].2)(&vec![1.0; n * n], n);
         text += &array(
             &format!("symmetric_eigen of {n} rows of ones: its values"),

@@ -3,7 +3,8 @@
 mod solvers;
 
 use refusal::Answer;
-ghost use Prim.Native.Nat.{_<_};
+ghost use Prim.Native.Nat.{_<_, _≤_};
+ghost use lib.ListN.{length};
 
 fn print(name: &[u8], right: usize, all: usize) {
     io::write_all(1, name);
@@ -265,18 +266,74 @@ fn householder_ql_5() {
     }
 }
 
+// The line of a matrix of ones: how many of its values have the oracle's bits.
+fn print_values(answer: Answer, values: &[f64], due: &[u64])
+    requires { ⌜ length (now values) ≤ length (now due) ⌝ }
+{
+    match answer {
+        Answer::Done => print(b"values ", replay::same(values, due, 0), values.len()),
+        Answer::Refused(_) => print(b"symmetric_eigen refused ", 0, values.len()),
+    }
+}
+
+// 27 rows of ones.
+fn ones_27() {
+    let a = [1.0; 729];
+    let mut work = [0.0; 837];
+    let mut values = [0.0; 27];
+    let mut vectors = [0.0; 729];
+    let answer = linalg::symmetric_eigen(27, &a, &mut work, &mut values, &mut vectors);
+    print_values(answer, &values, &solvers::ONES_27);
+}
+
+// 28 rows of ones.
+fn ones_28() {
+    let a = [1.0; 784];
+    let mut work = [0.0; 896];
+    let mut values = [0.0; 28];
+    let mut vectors = [0.0; 784];
+    let answer = linalg::symmetric_eigen(28, &a, &mut work, &mut values, &mut vectors);
+    print_values(answer, &values, &solvers::ONES_28);
+}
+
+// 29 rows of ones.
+fn ones_29() {
+    let a = [1.0; 841];
+    let mut work = [0.0; 957];
+    let mut values = [0.0; 29];
+    let mut vectors = [0.0; 841];
+    let answer = linalg::symmetric_eigen(29, &a, &mut work, &mut values, &mut vectors);
+    print_values(answer, &values, &solvers::ONES_29);
+}
+
+// 30 rows of ones.
+fn ones_30() {
+    let a = [1.0; 900];
+    let mut work = [0.0; 1020];
+    let mut values = [0.0; 30];
+    let mut vectors = [0.0; 900];
+    let answer = linalg::symmetric_eigen(30, &a, &mut work, &mut values, &mut vectors);
+    print_values(answer, &values, &solvers::ONES_30);
+}
+
+// 31 rows of ones.
+fn ones_31() {
+    let a = [1.0; 961];
+    let mut work = [0.0; 1085];
+    let mut values = [0.0; 31];
+    let mut vectors = [0.0; 961];
+    let answer = linalg::symmetric_eigen(31, &a, &mut work, &mut values, &mut vectors);
+    print_values(answer, &values, &solvers::ONES_31);
+}
+
 // 32 rows of ones: the most that rotations take.
 fn ones_32() {
     let a = [1.0; 1024];
     let mut work = [0.0; 1152];
     let mut values = [0.0; 32];
     let mut vectors = [0.0; 1024];
-    match linalg::symmetric_eigen(32, &a, &mut work, &mut values, &mut vectors) {
-        Answer::Done => {
-            print(b"values ", replay::same(&values, &solvers::ONES_32, 0), 32);
-        }
-        Answer::Refused(_) => print(b"symmetric_eigen refused ", 0, 32),
-    }
+    let answer = linalg::symmetric_eigen(32, &a, &mut work, &mut values, &mut vectors);
+    print_values(answer, &values, &solvers::ONES_32);
 }
 
 // 33 rows of ones: the fewest that reflections take.
@@ -285,12 +342,8 @@ fn ones_33() {
     let mut work = [0.0; 1221];
     let mut values = [0.0; 33];
     let mut vectors = [0.0; 1089];
-    match linalg::symmetric_eigen(33, &a, &mut work, &mut values, &mut vectors) {
-        Answer::Done => {
-            print(b"values ", replay::same(&values, &solvers::ONES_33, 0), 33);
-        }
-        Answer::Refused(_) => print(b"symmetric_eigen refused ", 0, 33),
-    }
+    let answer = linalg::symmetric_eigen(33, &a, &mut work, &mut values, &mut vectors);
+    print_values(answer, &values, &solvers::ONES_33);
 }
 
 fn main() {
@@ -322,6 +375,11 @@ fn main() {
     householder_ql_4();
     symmetric_eigen_5();
     householder_ql_5();
+    ones_27();
+    ones_28();
+    ones_29();
+    ones_30();
+    ones_31();
     ones_32();
     ones_33();
 }
