@@ -1,0 +1,66 @@
+//! Legendre tables and Gauss–Legendre rules.
+
+use oracle::standins::tricomi;
+
+use crate::cases::Cases;
+use crate::inputs::{LARGE, angle, degrees, fault};
+use crate::lent::pair;
+use crate::tally::{Report, Tally, shown};
+
+/// The random tables of a call.
+const COUNT: u64 = 4_000;
+
+pub fn compare(report: &mut Report) {
+    report.call("Legendre, p", |tally, cases| tables(tally, cases, table));
+    report.call("Legendre, p and dp", |tally, cases| tables(tally, cases, table_with_derivative));
+    report.call("gauss_legendre", rules);
+    report.call("gauss_grid", grids);
+}
+
+/// A table's entries on both sides, at a latitude (radians).
+type Tables = fn(&mut geopotential::Legendre, &mut oracle::Legendre, f64) -> Option<String>;
+
+fn tables(tally: &mut Tally, cases: &mut Cases, call: Tables) {
+    for nmax in degrees(cases, COUNT, &LARGE) {
+        let (mut ours, mut oracle) = (geopotential::Legendre::new(nmax), oracle::Legendre::new(nmax));
+        // The second latitude meets the tables of the first.
+        for _ in 0..2 {
+            let lat = angle(cases);
+            tally.call(call(&mut ours, &mut oracle, lat), || format!("N {nmax}, latitude {}", shown(lat)));
+        }
+    }
+}
+
+fn table(ours: &mut geopotential::Legendre, oracle: &mut oracle::Legendre, lat: f64) -> Option<String> {
+    ours.compute(lat);
+    oracle.compute(pair(lat));
+    fault("p", &entries(ours.max_degree(), |n, m| ours.p(n, m)), &oracle.p)
+}
+
+fn table_with_derivative(ours: &mut geopotential::Legendre, oracle: &mut oracle::Legendre, lat: f64) -> Option<String> {
+    ours.compute_with_derivative(lat);
+    oracle.compute_with_derivative(pair(lat));
+    fault("p", &entries(ours.max_degree(), |n, m| ours.p(n, m)), &oracle.p)
+        .or_else(|| fault("dp", &entries(ours.max_degree(), |n, m| ours.dp(n, m)), &oracle.dp))
+}
+
+/// The entries of a table along its storage.
+fn entries(nmax: usize, entry: impl Fn(usize, usize) -> f64) -> Vec<f64> {
+    (0..=nmax).flat_map(|n| (0..=n).map(move |m| (n, m))).map(|(n, m)| entry(n, m)).collect()
+}
+
+fn rules(tally: &mut Tally, _: &mut Cases) {
+    for n in (0..=300).chain([512, 1000, 2701]) {
+        let (ours, oracle) = (geopotential::gauss_legendre(n), oracle::gauss_legendre(n, &tricomi(n)));
+        let fault = fault("x", &ours.0, &oracle.0).or_else(|| fault("w", &ours.1, &oracle.1));
+        tally.call(fault, || format!("n {n}"));
+    }
+}
+
+fn grids(tally: &mut Tally, _: &mut Cases) {
+    for nmax in (0..=300).chain([512, 1000, 2700]) {
+        let (ours, oracle) = (geopotential::gauss_grid(nmax), oracle::gauss_grid(nmax));
+        let fault = fault("latitudes", &ours.0, &oracle.0).or_else(|| fault("longitudes", &ours.1, &oracle.1));
+        tally.call(fault, || format!("N {nmax}"));
+    }
+}

@@ -1,0 +1,156 @@
+//! The same program, compiled against the bindings and against the published crate with its files unchanged. Of these calls
+//! document 01's stand-ins touch one bit: a sum of a grid starts at +0.0, so a zero may have another sign. Solver and caps have
+//! another `hypot` and are left to the oracle.
+
+use crate::cases::Cases;
+use crate::inputs::{angles, fault};
+use crate::tally::{Report, Tally};
+
+/// What the program is run with.
+struct Input {
+    nmax: usize,
+    gm: f64,
+    radius: f64,
+    c: Vec<f64>,
+    s: Vec<f64>,
+    love: Vec<f64>,
+    r: f64,
+    cut: usize,
+    lats: Vec<f64>,
+    lons: Vec<f64>,
+    values: Vec<f64>,
+}
+
+impl Input {
+    fn random(cases: &mut Cases, nmax: usize) -> Self {
+        let strange = cases.below(4) == 0;
+        let mut numbers = |count: usize| (0..count).map(|_| if strange { cases.number() } else { cases.fraction() - 0.5 }).collect();
+        let pairs = (nmax + 1) * (nmax + 2) / 2;
+        let (c, s, love, values) = (numbers(pairs), numbers(pairs), numbers(nmax + 1), numbers((nmax + 1) * (2 * nmax + 2)));
+        let [gm, radius] = [0; 2].map(|_| if strange { cases.number() } else { 1.0 + cases.fraction() });
+        let (rows, columns) = (cases.below(5) as usize, cases.below(10) as usize);
+        let (cut, r) = (cases.below(50) as usize, radius * (1.0 + 0.1 * cases.fraction()));
+        Input { nmax, gm, radius, c, s, love, r, cut, lats: angles(cases, rows), lons: angles(cases, columns), values }
+    }
+}
+
+/// The program, for one of the two crates. Each function is a call and its answer in one list.
+macro_rules! program {
+    ($name:ident, $library:ident) => {
+        mod $name {
+            use $library::slepian::basin_average;
+            use $library::{Coefficients, Functional, Legendre, Partials, gauss_grid, gauss_legendre};
+
+            use super::Input;
+
+            fn field(input: &Input) -> Coefficients {
+                let mut field = Coefficients::zeros(input.gm, input.radius, input.nmax);
+                let places = (0..=input.nmax).flat_map(|n| (0..=n).map(move |m| (n, m)));
+                places.zip(input.c.iter().zip(&input.s)).for_each(|((n, m), (&c, &s))| field.set(n, m, c, s));
+                field
+            }
+
+            fn numbers(field: &Coefficients) -> Vec<f64> {
+                let places = (0..=field.max_degree()).flat_map(|n| (0..=n).map(move |m| (n, m)));
+                [field.gm, field.radius].into_iter().chain(places.flat_map(|(n, m)| [field.c(n, m), field.s(n, m)])).collect()
+            }
+
+            fn functionals(input: &Input) -> [Functional<'_>; 6] {
+                let water = Functional::WaterHeight { love: &input.love };
+                use Functional::*;
+                [Potential, GeoidHeight, GravityDisturbance, GravityAnomaly, RadialGradient, water]
+            }
+
+            pub fn factor(input: &Input) -> Vec<f64> {
+                let factors =
+                    |f: Functional| (0..=input.nmax).map(move |n| f.factor(n, input.gm, input.radius, input.r)).collect::<Vec<_>>();
+                functionals(input).into_iter().flat_map(factors).collect()
+            }
+
+            pub fn coefficients(input: &Input) -> Vec<f64> {
+                let field = field(input);
+                let amplitudes = functionals(input).into_iter().flat_map(|f| field.degree_amplitudes(&f));
+                let changed = [field.truncated(input.cut), field.rescaled(input.r, input.gm)];
+                field.degree_variances().into_iter().chain(amplitudes).chain(changed.iter().flat_map(numbers)).collect()
+            }
+
+            pub fn legendre(input: &Input) -> Vec<f64> {
+                let mut leg = Legendre::new(input.nmax);
+                let mut out = Vec::new();
+                for &lat in &input.lats {
+                    leg.compute(lat);
+                    out.push(leg.p(input.nmax, input.nmax / 2));
+                    leg.compute_with_derivative(lat);
+                    (0..=input.nmax).for_each(|n| (0..=n).for_each(|m| out.extend([leg.p(n, m), leg.dp(n, m)])));
+                }
+                out
+            }
+
+            pub fn rules(input: &Input) -> Vec<f64> {
+                let ((x, w), (lats, lons)) = (gauss_legendre(input.nmax), gauss_grid(input.nmax));
+                [x, w, lats, lons].concat()
+            }
+
+            pub fn grid(input: &Input) -> Vec<f64> {
+                let field = field(input);
+                functionals(input).into_iter().flat_map(|f| field.grid(&f, input.r, &input.lats, &input.lons)).collect()
+            }
+
+            pub fn partials(input: &Input) -> Vec<f64> {
+                let (field, r) = (field(input), input.r);
+                let at = |(&lat, &lon): (&f64, &f64)| {
+                    let partials @ Partials { v, dr, dlat, dlon } = field.partials(r, lat, lon);
+                    [&[v, dr, dlat, dlon][..], &partials.acceleration_neu(r, lat), &partials.gravity_neu(r, lat, 0.1)].concat()
+                };
+                input.lats.iter().zip(&input.lons).flat_map(at).collect()
+            }
+
+            pub fn analysis(input: &Input) -> Vec<f64> {
+                let analysis = |f| Coefficients::analysis(&f, input.r, &input.values, input.nmax, input.gm, input.radius);
+                functionals(input).into_iter().flat_map(|f| numbers(&analysis(f))).collect()
+            }
+
+            pub fn average(input: &Input) -> Vec<f64> {
+                let field = field(input);
+                functionals(input).iter().map(|f| basin_average(&field, &field.truncated(input.cut), f, input.r)).collect()
+            }
+        }
+    };
+}
+
+program!(ours, geopotential);
+program!(theirs, published);
+
+type Program = fn(&Input) -> Vec<f64>;
+
+/// Each part of the program, compiled against the one and the other.
+const PARTS: &[(&str, Program, Program)] = &[
+    ("factor", ours::factor, theirs::factor),
+    ("coefficients", ours::coefficients, theirs::coefficients),
+    ("legendre", ours::legendre, theirs::legendre),
+    ("gauss rules, grids", ours::rules, theirs::rules),
+    ("grid", ours::grid, theirs::grid),
+    ("grid, zeros unsigned", |input| unsigned(ours::grid(input)), |input| unsigned(theirs::grid(input))),
+    ("partials", ours::partials, theirs::partials),
+    ("analysis", ours::analysis, theirs::analysis),
+    ("basin_average", ours::average, theirs::average),
+];
+
+/// Every zero as +0.
+fn unsigned(numbers: Vec<f64>) -> Vec<f64> {
+    numbers.into_iter().map(|x| if x == 0.0 { 0.0 } else { x }).collect()
+}
+
+pub fn compare(report: &mut Report) {
+    for &(name, ours, published) in PARTS {
+        report.call(name, |tally, cases| runs(tally, cases, ours, published));
+    }
+}
+
+fn runs(tally: &mut Tally, cases: &mut Cases, ours: Program, published: Program) {
+    for _ in cases.times(2_000) {
+        let nmax = cases.below(41) as usize;
+        let input = Input::random(cases, nmax);
+        tally.call(fault("answer", &ours(&input), &published(&input)), || format!("N {nmax}"));
+    }
+}

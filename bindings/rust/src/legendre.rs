@@ -1,0 +1,151 @@
+//! Fully normalized associated Legendre functions `P̄nm(sin φ)` (4π normalization, no
+//! Condon–Shortley phase) and their latitude derivatives, stable to degree 2700 at every latitude.
+//!
+//! This is the modified forward column recursion of Holmes & Featherstone (2002, J. Geodesy 76,
+//! 279–299). The recursion runs on `P̄nm / cos^m φ`, scaled by 1e-280 so it cannot overflow, and
+//! `cos^m φ` is applied last, the way SHTOOLS' `PlmBar` does it. A value that underflows in that
+//! last step is below 1e-308, which is negligible.
+
+use crate::calls::tables::Recursion;
+use crate::calls::{lengths, tables};
+use crate::refusal::{Refusal, or_panic};
+use crate::workspace::{self, List};
+
+/// Highest degree the scaled recursion supports before `P̄nm / cos^m φ` can overflow near the
+/// poles (Holmes & Featherstone 2002).
+pub const MAX_DEGREE: usize = 2700;
+
+/// A reusable table of `P̄nm` (and optionally `∂P̄nm/∂φ`) for all `0 ≤ m ≤ n ≤ nmax` at one
+/// latitude. The recursion coefficients are computed once in [`Legendre::new`].
+///
+/// ```
+/// use geopotential::Legendre;
+///
+/// let mut leg = Legendre::new(2);
+/// leg.compute(0.3);
+/// let t = 0.3f64.sin();
+/// assert!((leg.p(2, 0) - 5f64.sqrt() / 2.0 * (3.0 * t * t - 1.0)).abs() < 1e-15);
+/// ```
+#[derive(Clone, Debug)]
+pub struct Legendre {
+    nmax: usize,
+    a: Vec<f64>,
+    b: Vec<f64>,
+    p: Vec<f64>,
+    dp: Vec<f64>,
+}
+
+impl Legendre {
+    /// Prepare a table up to degree `nmax`.
+    ///
+    /// # Panics
+    /// If `nmax > MAX_DEGREE`: the recursion would overflow near the poles and return NaN.
+    #[track_caller]
+    pub fn new(nmax: usize) -> Self {
+        or_panic(Self::try_new(nmax))
+    }
+
+    /// [`new`](Self::new), refused instead of a panic.
+    pub fn try_new(nmax: usize) -> Result<Self, Refusal> {
+        let [a, b] = lengths::legendre_new(nmax)?;
+        let [_, _, p] = lengths::legendre_compute(nmax)?;
+        let (mut a, mut b) = (vec![0.0; a], vec![0.0; b]);
+        tables::legendre_new(nmax, &mut a, &mut b)?;
+        Ok(Legendre { nmax, a, b, p: vec![0.0; p], dp: Vec::new() })
+    }
+
+    /// Maximum degree of the table.
+    pub fn max_degree(&self) -> usize {
+        self.nmax
+    }
+
+    /// Fill `P̄nm(sin φ)` at geocentric latitude `lat` (radians).
+    pub fn compute(&mut self, lat: f64) {
+        let Legendre { nmax, a, b, p, .. } = self;
+        or_panic(tables::legendre_compute(Recursion { nmax: *nmax, a, b }, lat.sin_cos(), p));
+    }
+
+    /// Like [`compute`](Self::compute), and also fill `∂P̄nm/∂φ`. The derivative is a
+    /// combination of `P̄n,m±1`, with no `1/cos φ` factor, so it is exact at the poles.
+    pub fn compute_with_derivative(&mut self, lat: f64) {
+        let Legendre { nmax, a, b, p, dp } = self;
+        if dp.is_empty() {
+            let [.., length] = or_panic(lengths::legendre_compute_with_derivative(*nmax));
+            *dp = vec![0.0; length];
+        }
+        or_panic(tables::legendre_compute_with_derivative(Recursion { nmax: *nmax, a, b }, lat.sin_cos(), p, dp));
+    }
+
+    /// `P̄nm` from the last [`compute`](Self::compute).
+    ///
+    /// # Panics
+    /// If `m > n` or `n > max_degree()`.
+    #[track_caller]
+    pub fn p(&self, n: usize, m: usize) -> f64 {
+        or_panic(self.try_p(n, m))
+    }
+
+    /// [`p`](Self::p), refused instead of a panic.
+    pub fn try_p(&self, n: usize, m: usize) -> Result<f64, Refusal> {
+        tables::legendre_entry(self.nmax, &self.p, n, m)
+    }
+
+    /// `∂P̄nm/∂φ` from the last [`compute_with_derivative`](Self::compute_with_derivative).
+    ///
+    /// # Panics
+    /// If `m > n`, `n > max_degree()`, or no derivative has been computed.
+    #[track_caller]
+    pub fn dp(&self, n: usize, m: usize) -> f64 {
+        or_panic(self.try_dp(n, m))
+    }
+
+    /// [`dp`](Self::dp), refused instead of a panic: by [`Refusal::Length`] where no derivative has been computed, as there is
+    /// no table of them.
+    pub fn try_dp(&self, n: usize, m: usize) -> Result<f64, Refusal> {
+        tables::legendre_entry(self.nmax, &self.dp, n, m)
+    }
+}
+
+/// The `n` nodes (ascending) and weights of Gauss–Legendre quadrature on `[−1, 1]`, exact for
+/// polynomials of degree up to `2n − 1`: Newton's method on `P_n` from Tricomi's starting values,
+/// with the weights `2/((1 − x²)P_n′²)` and the symmetry about 0 imposed.
+///
+/// ```
+/// let (x, w) = geopotential::gauss_legendre(3);
+/// assert!((x[2] - 0.6f64.sqrt()).abs() < 1e-15 && x[1] == 0.0 && x[0] == -x[2]);
+/// assert!((w[1] - 8.0 / 9.0).abs() < 1e-15);
+/// ```
+///
+/// # Panics
+/// If `n > 2701`.
+#[track_caller]
+pub fn gauss_legendre(n: usize) -> (Vec<f64>, Vec<f64>) {
+    or_panic(try_gauss_legendre(n))
+}
+
+/// [`gauss_legendre`], refused instead of a panic.
+pub fn try_gauss_legendre(n: usize) -> Result<(Vec<f64>, Vec<f64>), Refusal> {
+    workspace::lend(|lists| lists.gauss.rule(n).map(|(x, w)| (x.to_vec(), w.to_vec())))
+}
+
+/// The lists of a Gauss–Legendre rule.
+#[derive(Default)]
+pub(crate) struct GaussLists {
+    guesses: List,
+    nodes: List,
+    weights: List,
+}
+
+impl GaussLists {
+    /// Nodes and weights of the rule of `n` nodes.
+    pub fn rule(&mut self, n: usize) -> Result<(&[f64], &[f64]), Refusal> {
+        let [guesses, x, w] = lengths::gauss_legendre(n)?;
+        let (guesses, x, w) = (self.guesses.front(guesses), self.nodes.front(x), self.weights.front(w));
+        for (i, guess) in guesses.iter_mut().enumerate() {
+            // Tricomi's starting value.
+            *guess = (core::f64::consts::PI * (i as f64 + 0.75) / (n as f64 + 0.5)).cos();
+        }
+        tables::gauss_legendre(n, guesses, x, w)?;
+        Ok((x, w))
+    }
+}

@@ -1,0 +1,66 @@
+//! Spherical-harmonic gravity fields from degree 0 to 2700: the calls of the published crate `geopotential`
+//! (FusionVault/physica, commit 52f1dbc835, MIT), answered by a library in which every one of them is proved.
+//!
+//! Names, paths, signatures and doc comments are the published crate's, so a program written against it compiles when one line
+//! of its `Cargo.toml` is changed. Angles are radians. This crate works out sines and cosines by the standard library, from the
+//! published expressions, and makes the lists; the arithmetic on them is the proved library's, in the published order. What is
+//! proved is the library; this crate is tested and compared with the published one.
+//!
+//! ```
+//! use geopotential::{Coefficients, Functional};
+//!
+//! let mut field = Coefficients::zeros(3.986004415e14, 6378136.3, 2);
+//! field.set(2, 0, -4.8417e-4, 0.0);
+//! let geoid = field.grid(&Functional::GeoidHeight, 6378136.3, &[0.0, 0.5], &[0.0, 1.0, 2.0]);
+//! assert_eq!(geoid.len(), 6);
+//! assert!((geoid[0] - 3452.7).abs() < 0.1);
+//! ```
+//!
+//! # Refusals
+//!
+//! A call that the library can refuse has a twin `try_NAME`, which answers `Result<_, `[`Refusal`]`>`; the published name panics
+//! with the refusal's line. A call without a twin is never refused: fields and tables of a degree above [`MAX_DEGREE`] can't be
+//! made, so what is worked out from one always fits.
+//!
+//! # Added
+//!
+//! [`Coefficients::partials_along`] takes many points at once, [`model_file`] keeps a field in a file with every bit of it, and
+//! [`Refusal`] says why a call was refused.
+//!
+//! # Not ported
+//!
+//! Of the published crate: `second_partials` and `SecondPartials` with `tensor_neu`, `compute_with_second_derivative`, `ddp`;
+//! `geopotential` and `deflections` of [`Partials`]; `to_tide_system` and `TimeVariable`; `gauss` and `cholesky*` of [`linalg`];
+//! regions, polygons and `basin_kernel` of [`slepian`]; the modules `normal` and `field`; the feature `serde`.
+//!
+//! # Memory
+//!
+//! A call allocates its answer and nothing else: working lists belong to the thread, grow to what its largest call needs and are
+//! kept until it ends (4T numbers for partials, T = (N+1)(N+2)/2; a grid keeps 2N + 2 numbers for each longitude).
+
+#![deny(unsafe_code)]
+
+#[allow(unsafe_code)]
+mod calls;
+#[allow(unsafe_code)]
+mod ffi;
+mod trigonometry;
+mod workspace;
+
+/// Spherical-harmonic coefficients of a field.
+pub mod coefficients;
+/// Factors of the functionals by degree.
+pub mod functional;
+pub mod legendre;
+pub mod linalg;
+pub mod model_file;
+pub mod refusal;
+pub mod slepian;
+/// Synthesis and analysis of a field.
+pub mod synthesis;
+
+pub use coefficients::{Coefficients, TideSystem};
+pub use functional::{Functional, RHO_EARTH, RHO_WATER};
+pub use legendre::{Legendre, MAX_DEGREE, gauss_legendre, try_gauss_legendre};
+pub use refusal::Refusal;
+pub use synthesis::{Partials, gauss_grid, try_gauss_grid};

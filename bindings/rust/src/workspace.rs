@@ -1,0 +1,72 @@
+//! The lists that calls work with. Each thread has one set of them, which grows to what its largest call needs and is kept, so
+//! that a call allocates nothing but its answer.
+
+use core::cell::RefCell;
+
+use crate::legendre::GaussLists;
+
+/// A list that grows and never shrinks.
+#[derive(Default)]
+pub struct List<T = f64>(Vec<T>);
+
+impl<T: Copy + Default> List<T> {
+    /// Its first `length` numbers, whatever they are; it grows where it is shorter.
+    pub fn front(&mut self, length: usize) -> &mut [T] {
+        if self.0.len() < length {
+            // What it holds is not wanted: let it go before the longer one is made, and copy nothing.
+            self.0 = Vec::new();
+            self.0 = vec![T::default(); length];
+        }
+        &mut self.0[..length]
+    }
+}
+
+/// The lists of one thread, each for one part of a call.
+#[derive(Default)]
+pub struct Workspace {
+    /// Nodes and weights of a Gauss–Legendre rule.
+    pub gauss: GaussLists,
+    /// Geocentric radii of points.
+    pub radii: List,
+    /// Sines and cosines of latitudes.
+    pub latitudes: List,
+    /// Cosines and sines of the multiples of longitudes.
+    pub trig: List,
+    /// Working numbers of a call.
+    pub work: List,
+    /// Numbers of a call whose answer is a list of records: partials of points, vectors of a cap.
+    pub numbers: List,
+    /// Orders of a cap's functions.
+    pub orders: List,
+    /// Concentrations of a cap's functions.
+    pub concentrations: List,
+    /// Bit patterns of a model's C̄nm.
+    pub c_bits: List<u64>,
+    /// Bit patterns of a model's S̄nm.
+    pub s_bits: List<u64>,
+}
+
+thread_local! {
+    static WORKSPACE: RefCell<Workspace> = RefCell::default();
+}
+
+/// Lends the thread's lists to one call. A call that holds them calls no other that wants them.
+pub fn lend<T>(call: impl FnOnce(&mut Workspace) -> T) -> T {
+    WORKSPACE.with_borrow_mut(call)
+}
+
+#[cfg(test)]
+mod tests {
+    use super::*;
+
+    #[test]
+    fn a_list_grows_and_is_kept() {
+        let mut list: List = List::default();
+        assert!(list.front(0).is_empty());
+        list.front(3).copy_from_slice(&[1.0, 2.0, 3.0]);
+        assert_eq!(list.front(2), [1.0, 2.0]);
+        let place = list.front(9).as_ptr();
+        assert_eq!(list.front(4).len(), 4);
+        assert_eq!(list.front(9).as_ptr(), place);
+    }
+}

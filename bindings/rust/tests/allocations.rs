@@ -1,0 +1,79 @@
+//! A call allocates its answer and nothing else, once the thread's lists have grown to what it needs.
+
+use std::alloc::{GlobalAlloc, Layout, System};
+use std::cell::Cell;
+use std::hint::black_box;
+
+use geopotential::linalg::symmetric_eigen;
+use geopotential::slepian::{basin_average, polar_cap};
+use geopotential::{Coefficients, Functional, Legendre, gauss_grid, gauss_legendre, model_file};
+
+/// The system's allocator, counting each thread's allocations.
+struct Counting;
+
+thread_local! {
+    static COUNT: Cell<usize> = const { Cell::new(0) };
+}
+
+// SAFETY: every call is the system allocator's.
+unsafe impl GlobalAlloc for Counting {
+    unsafe fn alloc(&self, layout: Layout) -> *mut u8 {
+        COUNT.set(COUNT.get() + 1);
+        // SAFETY: the caller keeps the allocator's contract.
+        unsafe { System.alloc(layout) }
+    }
+
+    unsafe fn dealloc(&self, memory: *mut u8, layout: Layout) {
+        // SAFETY: the caller keeps the allocator's contract.
+        unsafe { System.dealloc(memory, layout) }
+    }
+}
+
+#[global_allocator]
+static ALLOCATOR: Counting = Counting;
+
+/// How often a call allocates when it is made again.
+fn again<T>(mut call: impl FnMut() -> T) -> usize {
+    black_box(call());
+    let before = COUNT.get();
+    let answer = call();
+    let count = COUNT.get() - before;
+    black_box(answer);
+    count
+}
+
+#[test]
+fn grids_and_points() {
+    let (field, (lats, lons)) = (Coefficients::zeros(8.0, 2.0, 20), gauss_grid(20));
+    let values = vec![1.0; lats.len() * lons.len()];
+    assert_eq!(again(|| field.grid(&Functional::GeoidHeight, 2.5, &lats, &lons)), 1);
+    assert_eq!(again(|| field.partials(2.5, 0.3, 1.0)), 0);
+    assert_eq!(again(|| field.partials(2.5, 0.3, 1.0).gravity_neu(2.5, 0.3, 0.1)), 0);
+    assert_eq!(again(|| field.partials_along(&[(2.5, 0.3, 1.0); 7])), 1);
+    assert_eq!(again(|| Coefficients::analysis(&Functional::GeoidHeight, 2.5, &values, 20, 8.0, 2.0)), 2, "c and s");
+    assert_eq!(again(|| basin_average(&field, &field, &Functional::Potential, 2.5)), 0);
+    // A smaller call takes the front of the lists.
+    let small = field.truncated(3);
+    assert_eq!(again(|| small.partials(2.5, 0.3, 1.0)), 0);
+}
+
+#[test]
+fn fields_and_files() {
+    let field = Coefficients::zeros(8.0, 2.0, 20);
+    let bytes = model_file::write(&field).unwrap();
+    assert_eq!(again(|| model_file::write(&field)), 1);
+    assert_eq!(again(|| model_file::read(&bytes)), 2, "c and s");
+    assert_eq!(again(|| model_file::read(&bytes[1..])), 0);
+    assert_eq!(again(|| field.rescaled(1.0, 1.0)), 2);
+    assert_eq!(again(|| field.degree_amplitudes(&Functional::Potential)), 1);
+}
+
+#[test]
+fn tables_rules_and_matrices() {
+    let mut leg = Legendre::new(20);
+    assert_eq!(again(|| leg.compute(0.3)), 0);
+    assert_eq!(again(|| leg.compute_with_derivative(-0.3)), 0);
+    assert_eq!(again(|| gauss_legendre(21)), 2, "nodes and weights");
+    assert_eq!(again(|| symmetric_eigen(&[2.0, 1.0, 1.0, 2.0], 2)), 2, "values and vectors");
+    assert_eq!(again(|| polar_cap(6, 0.5)), 29, "28 functions and their list");
+}
