@@ -327,4 +327,32 @@ unsafe extern "C" {
         r: f64,
         value: *mut f64,
     ) -> u32;
+
+    /// The length of each list of a call, in the order of its parameters, at the front of `lengths`.
+    pub fn geopotential_factor_lengths(n: usize, lengths: *mut usize, lengths_len: usize) -> u32;
+    pub fn geopotential_zeros_lengths(nmax: usize, lengths: *mut usize, lengths_len: usize) -> u32;
+    pub fn geopotential_coefficient_c_lengths(nmax: usize, lengths: *mut usize, lengths_len: usize) -> u32;
+    pub fn geopotential_coefficient_s_lengths(nmax: usize, lengths: *mut usize, lengths_len: usize) -> u32;
+    pub fn geopotential_set_lengths(nmax: usize, lengths: *mut usize, lengths_len: usize) -> u32;
+    pub fn geopotential_truncated_lengths(nmax: usize, cut: usize, lengths: *mut usize, lengths_len: usize) -> u32;
+    pub fn geopotential_rescaled_lengths(nmax: usize, lengths: *mut usize, lengths_len: usize) -> u32;
+    pub fn geopotential_degree_variances_lengths(nmax: usize, lengths: *mut usize, lengths_len: usize) -> u32;
+    pub fn geopotential_degree_amplitudes_lengths(nmax: usize, lengths: *mut usize, lengths_len: usize) -> u32;
+    pub fn geopotential_model_read_lengths(bytes: *const u8, bytes_len: usize, lengths: *mut usize, lengths_len: usize) -> u32;
+    pub fn geopotential_model_write_lengths(nmax: usize, lengths: *mut usize, lengths_len: usize) -> u32;
+    pub fn geopotential_legendre_new_lengths(nmax: usize, lengths: *mut usize, lengths_len: usize) -> u32;
+    pub fn geopotential_legendre_compute_lengths(nmax: usize, lengths: *mut usize, lengths_len: usize) -> u32;
+    pub fn geopotential_legendre_compute_with_derivative_lengths(nmax: usize, lengths: *mut usize, lengths_len: usize) -> u32;
+    pub fn geopotential_legendre_entry_lengths(nmax: usize, lengths: *mut usize, lengths_len: usize) -> u32;
+    pub fn geopotential_gauss_legendre_lengths(n: usize, lengths: *mut usize, lengths_len: usize) -> u32;
+    pub fn geopotential_grid_lengths(nmax: usize, rows: usize, longitudes: usize, lengths: *mut usize, lengths_len: usize) -> u32;
+    pub fn geopotential_partials_lengths(nmax: usize, lengths: *mut usize, lengths_len: usize) -> u32;
+    pub fn geopotential_partials_along_lengths(nmax: usize, points: usize, lengths: *mut usize, lengths_len: usize) -> u32;
+    pub fn geopotential_acceleration_neu_lengths(lengths: *mut usize, lengths_len: usize) -> u32;
+    pub fn geopotential_gravity_neu_lengths(lengths: *mut usize, lengths_len: usize) -> u32;
+    pub fn geopotential_analysis_lengths(nmax: usize, lengths: *mut usize, lengths_len: usize) -> u32;
+    pub fn geopotential_symmetric_eigen_lengths(n: usize, lengths: *mut usize, lengths_len: usize) -> u32;
+    pub fn geopotential_householder_ql_lengths(n: usize, lengths: *mut usize, lengths_len: usize) -> u32;
+    pub fn geopotential_polar_cap_lengths(lmax: usize, lengths: *mut usize, lengths_len: usize) -> u32;
+    pub fn geopotential_basin_average_lengths(nmax: usize, kmax: usize, lengths: *mut usize, lengths_len: usize) -> u32;
 }

@@ -8,6 +8,7 @@ mod entries;
 mod functional;
 mod guarded;
 mod legendre;
+mod lengths;
 mod lent;
 mod linalg;
 mod margins;
@@ -34,32 +35,48 @@ usage: compare [--seed NUMBER] [--quick] [SUBJECT...]   same bits as the oracle,
        compare bench [SUBJECT...]                       ours, the Rust's, their ratio
        compare replay SUBJECT FILE                      write the oracle's answers as Rattle constants
        compare margins FILE [COUNT [SEED]]              write values and their sums' numbers, for margins.py
-subjects: number, functional, coefficients, model_file, legendre, synthesis, partials, analysis, linalg, slepian";
+subjects: number, functional, coefficients, model_file, legendre, synthesis, partials, analysis, linalg, slepian, lengths";
 
 /// One crate of the library: what can be done with it here.
 struct Subject {
     name: &'static str,
     compare: fn(&mut Report),
-    bench: fn(),
-    replay: fn() -> String,
+    bench: Option<fn()>,
+    replay: Option<fn() -> String>,
 }
 
 const SUBJECTS: &[Subject] = &[
-    Subject { name: "number", compare: number::compare, bench: number::bench::bench, replay: number::replay::replay },
-    Subject { name: "functional", compare: functional::compare, bench: functional::bench::bench, replay: functional::replay::replay },
+    Subject { name: "number", compare: number::compare, bench: Some(number::bench::bench), replay: Some(number::replay::replay) },
+    Subject {
+        name: "functional",
+        compare: functional::compare,
+        bench: Some(functional::bench::bench),
+        replay: Some(functional::replay::replay),
+    },
     Subject {
         name: "coefficients",
         compare: coefficients::compare,
-        bench: coefficients::bench::bench,
-        replay: coefficients::replay::replay,
+        bench: Some(coefficients::bench::bench),
+        replay: Some(coefficients::replay::replay),
     },
-    Subject { name: "model_file", compare: model_file::compare, bench: model_file::bench::bench, replay: model_file::replay::replay },
-    Subject { name: "legendre", compare: legendre::compare, bench: legendre::bench::bench, replay: legendre::replay::replay },
-    Subject { name: "synthesis", compare: synthesis::compare, bench: synthesis::bench::bench, replay: synthesis::replay::replay },
-    Subject { name: "partials", compare: partials::compare, bench: partials::bench::bench, replay: partials::replay::replay },
-    Subject { name: "analysis", compare: analysis::compare, bench: analysis::bench::bench, replay: analysis::replay::replay },
-    Subject { name: "linalg", compare: linalg::compare, bench: linalg::bench::bench, replay: linalg::replay::replay },
-    Subject { name: "slepian", compare: slepian::compare, bench: slepian::bench::bench, replay: slepian::replay::replay },
+    Subject {
+        name: "model_file",
+        compare: model_file::compare,
+        bench: Some(model_file::bench::bench),
+        replay: Some(model_file::replay::replay),
+    },
+    Subject { name: "legendre", compare: legendre::compare, bench: Some(legendre::bench::bench), replay: Some(legendre::replay::replay) },
+    Subject {
+        name: "synthesis",
+        compare: synthesis::compare,
+        bench: Some(synthesis::bench::bench),
+        replay: Some(synthesis::replay::replay),
+    },
+    Subject { name: "partials", compare: partials::compare, bench: Some(partials::bench::bench), replay: Some(partials::replay::replay) },
+    Subject { name: "analysis", compare: analysis::compare, bench: Some(analysis::bench::bench), replay: Some(analysis::replay::replay) },
+    Subject { name: "linalg", compare: linalg::compare, bench: Some(linalg::bench::bench), replay: Some(linalg::replay::replay) },
+    Subject { name: "slepian", compare: slepian::compare, bench: Some(slepian::bench::bench), replay: Some(slepian::replay::replay) },
+    Subject { name: "lengths", compare: lengths::compare, bench: None, replay: None },
 ];
 
 fn subject(name: &str) -> Result<&'static Subject, String> {
@@ -108,11 +125,11 @@ fn dispatch(arguments: &[&str]) -> Result<bool, String> {
         ["bench", names @ ..] => {
             let chosen = subjects(names)?;
             timing::header();
-            chosen.iter().for_each(|subject| (subject.bench)());
+            chosen.iter().filter_map(|subject| subject.bench).for_each(|bench| bench());
         }
         ["replay", name, file] => {
-            let text = (subject(name)?.replay)();
-            std::fs::write(file, text).map_err(|e| format!("{file}: {e}"))?;
+            let replay = subject(name)?.replay.ok_or_else(|| format!("{name} has no answers to replay"))?;
+            std::fs::write(file, replay()).map_err(|e| format!("{file}: {e}"))?;
         }
         ["margins", file, rest @ ..] => {
             let count = rest.first().map_or(Ok(20_000), |text| text.parse().map_err(|e| format!("count {text}: {e}")))?;

@@ -1,0 +1,253 @@
+/* Calls every entry of the header once, on lists as long as the entries that tell lengths say, and checks what comes back: document 01's
+ * marked values, values that follow by hand, and refusals that must leave a list alone. Prints each line that does not hold. */
+#include <math.h>
+#include <stdio.h>
+#include <stdlib.h>
+#include <string.h>
+
+#include "geopotential.h"
+
+#define LISTS 8
+#define CHECK(holds) check((holds) ? 1 : 0, #holds, __LINE__)
+
+static unsigned checks, failures;
+
+/* A list of no numbers. */
+static const double none[1];
+
+static void check(int holds, const char *what, int line)
+{
+    checks++;
+    if (!holds) {
+        failures++;
+        printf("header: line %d does not hold: %s\n", line, what);
+    }
+}
+
+/* A list of this many numbers, all 7; one number more, so that no list is empty. */
+static double *list(size_t length)
+{
+    double *numbers = malloc((length + 1) * sizeof *numbers);
+    if (numbers == NULL) abort();
+    for (size_t i = 0; i <= length; i++) numbers[i] = 7;
+    return numbers;
+}
+
+/* Cosine and sine of m times an angle, for m up to nmax. */
+static void fill_trig(double angle, size_t nmax, double *trig)
+{
+    for (size_t m = 0; m <= nmax; m++) {
+        trig[2 * m] = cos((double)m * angle);
+        trig[2 * m + 1] = sin((double)m * angle);
+    }
+}
+
+static void numbers(void)
+{
+    CHECK(geopotential_root(4) == 2);
+    CHECK(geopotential_root_near(4, 3) == 2);
+    CHECK(geopotential_hypot(3, 4) == 5);
+    CHECK(geopotential_signum(-0.0) == -1);
+    CHECK(geopotential_magnitude(-2.5) == 2.5);
+    CHECK(geopotential_powi(2, 10) == 1024);
+    CHECK(geopotential_number_of_bits(0x3FF6A09E667F3BCD) == geopotential_root(2));
+    CHECK(geopotential_bits_of_number(1) == 0x3FF0000000000000);
+    CHECK(geopotential_ranks_before(NAN, INFINITY) == 1);
+}
+
+static void functionals(void)
+{
+    size_t lengths[LISTS];
+    double value = 7;
+    CHECK(geopotential_factor_lengths(3, lengths, LISTS) == GEOPOTENTIAL_DONE && lengths[0] == 4);
+    CHECK(geopotential_factor(GEOPOTENTIAL_POTENTIAL, none, 0, 3, 8, 1, 2, &value) == GEOPOTENTIAL_DONE && value == 0.5);
+    CHECK(geopotential_factor(GEOPOTENTIAL_WATER_HEIGHT, none, 0, 3, 8, 1, 2, &value) == GEOPOTENTIAL_LOVE && value == 0.5);
+    CHECK(geopotential_factor(6, none, 0, 3, 8, 1, 2, &value) == GEOPOTENTIAL_NO_FUNCTIONAL && value == 0.5);
+}
+
+/* A field of degree 2 with c(2, 1) = 3 and s(2, 1) = 4. */
+static void coefficients(void)
+{
+    size_t lengths[LISTS], degree = 7;
+    double value = 7, out[3];
+    CHECK(geopotential_zeros_lengths(2, lengths, LISTS) == GEOPOTENTIAL_DONE);
+    double *c = list(lengths[0]), *s = list(lengths[1]), *outc = list(lengths[0]), *outs = list(lengths[1]);
+    size_t size = lengths[0];
+    CHECK(size == 6 && geopotential_zeros(8, 1, 2, c, size, s, size) == GEOPOTENTIAL_DONE && c[5] == 0 && c[6] == 7);
+    CHECK(geopotential_set_lengths(2, lengths, LISTS) == GEOPOTENTIAL_DONE && lengths[1] == size);
+    CHECK(geopotential_set(2, c, size, s, size, 2, 1, 3, 4) == GEOPOTENTIAL_DONE && c[4] == 3 && s[4] == 4);
+    CHECK(geopotential_coefficient_c_lengths(2, lengths, 1) == GEOPOTENTIAL_DONE && lengths[0] == size);
+    CHECK(geopotential_coefficient_c(2, c, size, 2, 1, &value) == GEOPOTENTIAL_DONE && value == 3);
+    CHECK(geopotential_coefficient_s_lengths(2, lengths, 1) == GEOPOTENTIAL_DONE && lengths[0] == size);
+    CHECK(geopotential_coefficient_s(2, s, size, 2, 1, &value) == GEOPOTENTIAL_DONE && value == 4);
+    CHECK(geopotential_coefficient_s(2, s, size, 1, 2, &value) == GEOPOTENTIAL_PLACE && value == 4);
+    CHECK(geopotential_truncated_lengths(2, 1, lengths, LISTS) == GEOPOTENTIAL_DONE && lengths[2] == 3);
+    CHECK(geopotential_truncated(2, c, size, s, size, 1, outc, lengths[2], outs, lengths[3], &degree) == GEOPOTENTIAL_DONE);
+    CHECK(degree == 1 && outc[2] == 0 && outc[3] == 7);
+    CHECK(geopotential_rescaled_lengths(2, lengths, LISTS) == GEOPOTENTIAL_DONE && lengths[3] == size);
+    CHECK(geopotential_rescaled(8, 1, 2, c, size, s, size, 4, 2, outc, size, outs, size) == GEOPOTENTIAL_DONE && outc[4] == 1.5);
+    CHECK(geopotential_degree_variances_lengths(2, lengths, LISTS) == GEOPOTENTIAL_DONE && lengths[2] == 3);
+    CHECK(geopotential_degree_variances(2, c, size, s, size, out, lengths[2]) == GEOPOTENTIAL_DONE && out[2] == 25);
+    CHECK(geopotential_degree_variances(2, c, size, s, size - 1, out, 3) == GEOPOTENTIAL_LENGTH && out[2] == 25);
+    CHECK(geopotential_degree_amplitudes_lengths(2, lengths, LISTS) == GEOPOTENTIAL_DONE && lengths[2] == 3 && lengths[3] == 3);
+    CHECK(geopotential_degree_amplitudes(8, 2, 2, c, size, s, size, GEOPOTENTIAL_GEOID_HEIGHT, none, 0, out, lengths[3]) ==
+              GEOPOTENTIAL_DONE &&
+          out[2] == 10);
+    free(c), free(s), free(outc), free(outs);
+}
+
+/* Document 01's file of 38 bytes: gm 1, radius 1, tide 3, N 0, c 1, s 0. */
+static void model_files(void)
+{
+    const uint64_t one = geopotential_bits_of_number(1);
+    uint64_t c[1] = {one}, s[1] = {0}, head[4];
+    uint8_t file[38];
+    size_t lengths[LISTS];
+    CHECK(geopotential_model_write_lengths(0, lengths, LISTS) == GEOPOTENTIAL_DONE && lengths[2] == sizeof file);
+    CHECK(geopotential_model_write(one, one, GEOPOTENTIAL_TIDE_UNKNOWN, 0, c, 1, s, 1, file, lengths[2]) == GEOPOTENTIAL_DONE);
+    CHECK(geopotential_model_write(one, one, 4, 0, c, 1, s, 1, file, sizeof file) == GEOPOTENTIAL_TIDE);
+    CHECK(geopotential_model_read_lengths(file, 20, lengths, LISTS) == GEOPOTENTIAL_DONE);
+    CHECK(lengths[0] == sizeof file && lengths[1] == 1 && lengths[2] == 1 && lengths[3] == 4);
+    c[0] = 7;
+    CHECK(geopotential_model_read(file, sizeof file, c, lengths[1], s, lengths[2], head, lengths[3]) == GEOPOTENTIAL_DONE);
+    CHECK(c[0] == one && s[0] == 0 && head[0] == one && head[1] == one && head[2] == GEOPOTENTIAL_TIDE_UNKNOWN && head[3] == 0);
+    CHECK(geopotential_model_read(file, 37, c, 1, s, 1, head, 4) == GEOPOTENTIAL_SHORT);
+    file[0] = 2;
+    CHECK(geopotential_model_read_lengths(file, 20, lengths, LISTS) == GEOPOTENTIAL_KIND && lengths[3] == 4);
+}
+
+static void tables(void)
+{
+    size_t lengths[LISTS];
+    const double t = 0.6, u = 0.8;
+    double value = 7, guess = 0x1p-54, x[1], w[1];
+    CHECK(geopotential_legendre_compute_with_derivative_lengths(2, lengths, LISTS) == GEOPOTENTIAL_DONE);
+    const size_t size = lengths[3];
+    double *a = list(size), *b = list(size), *p = list(size), *dp = list(size);
+    CHECK(geopotential_legendre_new_lengths(2, lengths, LISTS) == GEOPOTENTIAL_DONE && lengths[1] == size);
+    CHECK(geopotential_legendre_new(2, a, size, b, size) == GEOPOTENTIAL_DONE);
+    CHECK(geopotential_legendre_compute_lengths(2, lengths, LISTS) == GEOPOTENTIAL_DONE && lengths[2] == size);
+    CHECK(geopotential_legendre_compute(2, t, u, a, size, b, size, p, size) == GEOPOTENTIAL_DONE);
+    CHECK(fabs(p[1] - sqrt(3) * t) < 1e-15 && fabs(p[3] - sqrt(5) / 2 * (3 * t * t - 1)) < 1e-15);
+    CHECK(geopotential_legendre_compute_with_derivative(2, t, u, a, size, b, size, p, size, dp, size) == GEOPOTENTIAL_DONE);
+    CHECK(geopotential_legendre_entry_lengths(2, lengths, LISTS) == GEOPOTENTIAL_DONE && lengths[0] == size);
+    CHECK(geopotential_legendre_entry(2, dp, size, 1, 0, &value) == GEOPOTENTIAL_DONE && fabs(value - sqrt(3) * u) < 1e-15);
+    CHECK(geopotential_gauss_legendre_lengths(1, lengths, LISTS) == GEOPOTENTIAL_DONE && lengths[0] == 1 && lengths[2] == 1);
+    CHECK(geopotential_gauss_legendre(1, &guess, 1, x, 1, w, 1) == GEOPOTENTIAL_DONE && x[0] == 0 && !signbit(x[0]) && w[0] == 2);
+    free(a), free(b), free(p), free(dp);
+}
+
+/* A point mass (c(0, 0) = 1) at twice its reference radius: V = gm/r, and a grid of two rows and three longitudes. */
+static void grid(void)
+{
+    size_t lengths[LISTS];
+    CHECK(geopotential_grid_lengths(2, 2, 3, lengths, LISTS) == GEOPOTENTIAL_DONE && lengths[6] == 6);
+    double *c = list(lengths[0]), *s = list(lengths[1]), *latitudes = list(lengths[3]), *trig = list(lengths[4]);
+    double *work = list(lengths[5]), *out = list(lengths[6]);
+    CHECK(geopotential_zeros(8, 1, 2, c, lengths[0], s, lengths[1]) == GEOPOTENTIAL_DONE);
+    c[0] = 1;
+    for (size_t i = 0; i < 2; i++) latitudes[2 * i] = sin((double)i), latitudes[2 * i + 1] = cos((double)i);
+    for (size_t j = 0; j < 3; j++) fill_trig((double)j, 2, trig + j * 6);
+    CHECK(geopotential_grid(8, 1, 2, c, lengths[0], s, lengths[1], GEOPOTENTIAL_POTENTIAL, none, 0, 2, 2, latitudes, lengths[3], 3, trig,
+                            lengths[4], work, lengths[5], out, lengths[6]) == GEOPOTENTIAL_DONE);
+    CHECK(out[0] == 4 && out[5] == 4 && out[6] == 7 && work[lengths[5]] == 7);
+    CHECK(geopotential_grid(8, 1, 2, c, lengths[0], s, lengths[1], GEOPOTENTIAL_POTENTIAL, none, 0, 2, 2, latitudes, lengths[3], 3, trig,
+                            lengths[4], work, lengths[5] - 1, out, lengths[6]) == GEOPOTENTIAL_SPACE);
+    CHECK(geopotential_grid_lengths(2, 65536, 3, lengths, LISTS) == GEOPOTENTIAL_SIZE);
+    free(c), free(s), free(latitudes), free(trig), free(work), free(out);
+}
+
+static void points(void)
+{
+    size_t lengths[LISTS];
+    const double radii[2] = {2, 4}, latitudes[4] = {0, 1, 0.6, 0.8};
+    double three[3];
+    CHECK(geopotential_partials_along_lengths(2, 2, lengths, LISTS) == GEOPOTENTIAL_DONE && lengths[6] == 8);
+    double *c = list(lengths[0]), *s = list(lengths[1]), *trig = list(lengths[4]), *work = list(lengths[5]), *out = list(lengths[6]);
+    CHECK(geopotential_zeros(8, 1, 2, c, lengths[0], s, lengths[1]) == GEOPOTENTIAL_DONE);
+    c[0] = 1;
+    fill_trig(0.5, 2, trig), fill_trig(1.5, 2, trig + 6);
+    CHECK(geopotential_partials_along(8, 1, 2, c, lengths[0], s, lengths[1], 2, radii, lengths[2], latitudes, lengths[3], trig, lengths[4],
+                                      work, lengths[5], out, lengths[6]) == GEOPOTENTIAL_DONE);
+    CHECK(out[0] == 4 && out[1] == -2 && out[4] == 2 && out[5] == -0.5 && out[8] == 7);
+    CHECK(geopotential_partials_lengths(2, lengths, LISTS) == GEOPOTENTIAL_DONE && lengths[4] == 4);
+    CHECK(geopotential_partials(8, 1, 2, c, lengths[0], s, lengths[1], 2, 0, 1, trig, lengths[2], work, lengths[3], out, lengths[4]) ==
+              GEOPOTENTIAL_DONE &&
+          out[0] == 4 && out[1] == -2);
+    CHECK(geopotential_acceleration_neu_lengths(lengths, 1) == GEOPOTENTIAL_DONE && lengths[0] == 3);
+    CHECK(geopotential_acceleration_neu(4, -2, 6, 8, 2, 0.6, 0.5, three, 3) == GEOPOTENTIAL_DONE);
+    CHECK(three[0] == 3 && three[1] == 8 && three[2] == -2);
+    CHECK(geopotential_gravity_neu_lengths(lengths, 0) == GEOPOTENTIAL_SPACE && lengths[0] == 3);
+    CHECK(geopotential_gravity_neu_lengths(lengths, 1) == GEOPOTENTIAL_DONE && lengths[0] == 3);
+    CHECK(geopotential_gravity_neu(4, -2, 6, 8, 2, 0.5, 0.5, 2, three, 3) == GEOPOTENTIAL_DONE);
+    CHECK(three[0] == 1 && three[1] == 8 && three[2] == 0);
+    free(c), free(s), free(trig), free(work), free(out);
+}
+
+/* A constant on the grid of degree 0, one Gauss row of two longitudes, is the field's first coefficient. */
+static void analysis(void)
+{
+    size_t lengths[LISTS];
+    const double values[2] = {4, 4}, weights[1] = {2}, latitudes[2] = {0, 1}, trig[4] = {1, 0, 1, 0};
+    double work[3], c[1], s[1];
+    CHECK(geopotential_analysis_lengths(0, lengths, LISTS) == GEOPOTENTIAL_DONE && lengths[1] == 2 && lengths[4] == 4 && lengths[5] == 3);
+    CHECK(geopotential_analysis(GEOPOTENTIAL_POTENTIAL, none, 0, 2, 0, 8, 1, values, lengths[1], weights, lengths[2], latitudes, lengths[3],
+                                trig, lengths[4], work, lengths[5], c, lengths[6], s, lengths[7]) == GEOPOTENTIAL_DONE);
+    CHECK(c[0] == 1 && s[0] == 0);
+}
+
+static void eigenvalues(void)
+{
+    size_t lengths[LISTS];
+    const double a[4] = {7, 0, 0, 5};
+    double values[2], vectors[4], work[12];
+    CHECK(geopotential_symmetric_eigen_lengths(2, lengths, LISTS) == GEOPOTENTIAL_DONE && lengths[1] == 12 && lengths[3] == 4);
+    CHECK(geopotential_symmetric_eigen(2, a, lengths[0], work, lengths[1], values, lengths[2], vectors, lengths[3]) == GEOPOTENTIAL_DONE);
+    CHECK(values[0] == 7 && values[1] == 5 && vectors[0] == 1 && vectors[1] == 0);
+    CHECK(geopotential_householder_ql_lengths(1, lengths, LISTS) == GEOPOTENTIAL_DONE && lengths[1] == 5);
+    CHECK(geopotential_householder_ql(1, a, lengths[0], work, lengths[1], values, lengths[2], vectors, lengths[3]) == GEOPOTENTIAL_DONE);
+    CHECK(values[0] == 7 && vectors[0] == 1);
+    CHECK(geopotential_symmetric_eigen_lengths(513, lengths, LISTS) == GEOPOTENTIAL_SIZE && lengths[1] == 5);
+}
+
+/* The cap that is the whole sphere: every function lies in it whole. */
+static void caps(void)
+{
+    size_t lengths[LISTS];
+    CHECK(geopotential_polar_cap_lengths(1, lengths, LISTS) == GEOPOTENTIAL_DONE && lengths[3] == 3 && lengths[5] == 5);
+    const double node = sqrt(1.0 / 3), u = sqrt(2.0 / 3), weights[2] = {1, 1}, latitudes[4] = {-node, u, node, u};
+    double *work = list(lengths[2]), *orders = list(lengths[3]), *concentrations = list(lengths[4]), *vectors = list(lengths[5]);
+    CHECK(geopotential_polar_cap(1, -1, weights, lengths[0], latitudes, lengths[1], work, lengths[2], orders, lengths[3], concentrations,
+                                 lengths[4], vectors, lengths[5]) == GEOPOTENTIAL_DONE);
+    for (size_t i = 0; i < 3; i++) CHECK(fabs(concentrations[i] - 1) < 1e-14);
+    CHECK(orders[0] + orders[1] + orders[2] == 1 && orders[3] == 7 && vectors[5] == 7);
+    free(work), free(orders), free(concentrations), free(vectors);
+}
+
+static void averages(void)
+{
+    size_t lengths[LISTS];
+    const double c[3] = {1, 2, 3}, s[3] = {0, 0, 4}, kernel[1] = {2}, zero[1] = {0};
+    double value = 7;
+    CHECK(geopotential_basin_average_lengths(1, 0, lengths, LISTS) == GEOPOTENTIAL_DONE && lengths[0] == 3 && lengths[2] == 1);
+    CHECK(geopotential_basin_average(8, 1, 1, c, lengths[0], s, lengths[1], 0, kernel, lengths[2], zero, lengths[3],
+                                     GEOPOTENTIAL_POTENTIAL, none, 0, 2, &value) == GEOPOTENTIAL_DONE &&
+          value == 4);
+}
+
+int main(void)
+{
+    numbers();
+    functionals();
+    coefficients();
+    model_files();
+    tables();
+    grid();
+    points();
+    analysis();
+    eigenvalues();
+    caps();
+    averages();
+    printf("header: %u facts checked, %u do not hold\n", checks, failures);
+    return failures != 0;
+}

@@ -1,0 +1,57 @@
+#!/usr/bin/env python3
+"""Holds include/geopotential.h against the entries of the crate geopotential: the same names, the same parameters with the same names and types
+in the same order, the same results. Prints each difference; the exit status is 1 where there is one."""
+
+import pathlib
+import re
+import sys
+
+ROOT = pathlib.Path(__file__).resolve().parents[2]
+NUMBERS = {"f64": "double", "usize": "size_t", "u8": "uint8_t", "u32": "uint32_t", "u64": "uint64_t"}
+
+
+def in_c(name, kind):
+    """The C parameters of a parameter of Rattle: a list is a pointer and then its length."""
+    form = re.fullmatch(r"(&mut |&)?(?:\[(\w+)\]|(\w+))", kind)
+    if form is None:
+        sys.exit(f"exports.py: a parameter of a type that C has not: {name}: {kind}")
+    lent, element, number = form.groups()
+    const = "const " if lent == "&" else ""
+    if element:
+        return [f"{const}{NUMBERS[element]} *{name}", f"size_t {name}_len"]
+    if lent:
+        return [f"{const}{NUMBERS[number]} *{name}"]
+    return [f"{NUMBERS[number]} {name}"]
+
+
+def exported():
+    """The prototypes of the entries, by name."""
+    found = {}
+    entry = re.compile(r'#\[no_mangle\]\s+pub extern "C" fn (\w+)\(([^)]*)\) -> (\w+)')
+    for file in sorted((ROOT / "crates/geopotential/src").glob("*.rt")):
+        for name, parameters, result in entry.findall(file.read_text()):
+            listed = [p.split(":") for p in parameters.split(",") if p.strip()]
+            found[name] = (NUMBERS[result], [c for n, k in listed for c in in_c(n.strip(), k.strip())])
+    return found
+
+
+def declared(header):
+    """The prototypes of the header, by name."""
+    text = re.sub(r"/\*.*?\*/", " ", header.read_text(), flags=re.S)
+    prototype = re.compile(r"(double|uint32_t|uint64_t|size_t|void) (geopotential_\w+)\(([^)]*)\);")
+    return {name: (result, [" ".join(p.split()) for p in parameters.split(",")]) for result, name, parameters in prototype.findall(text)}
+
+
+def main():
+    source, header = exported(), declared(ROOT / "include/geopotential.h")
+    differences = [f"{name}: in the library, not in the header" for name in source if name not in header]
+    differences += [f"{name}: in the header, not in the library" for name in header if name not in source]
+    for name in source:
+        if name in header and source[name] != header[name]:
+            differences.append(f"{name}:\n  library {source[name]}\n  header  {header[name]}")
+    print("\n".join(differences) if differences else f"header: {len(source)} entries, as the library exports them")
+    sys.exit(1 if differences else 0)
+
+
+if __name__ == "__main__":
+    main()

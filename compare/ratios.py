@@ -1,0 +1,69 @@
+#!/usr/bin/env python3
+"""The speed table: reads what `compare/run bench` printed and sets each row that has a limit beside it.
+
+    compare/run bench > FILE && python3 compare/ratios.py FILE
+
+A ratio is our time by the Rust's in one run; the root's limit is in nanoseconds a call, a model file's in GB/s at least. Times depend on the
+machine and on what else it does, so a row beyond its limit is said and is no failure; a row that the benchmark did not print is one.
+"""
+import sys
+
+# The work, the benchmark's line, what is held against the limit, the limit.
+ROWS = [
+    ("root, a call, ns", "root", "ours", 14.0),
+    ("Legendre::new N = 96", "Legendre::new, N = 96", "ratio", 4.0),
+    ("Legendre::new N = 2700", "Legendre::new, N = 2700", "ratio", 2.0),
+    ("compute N = 96", "compute, N = 96", "ratio", 0.6),
+    ("compute N = 2700", "compute, N = 2700", "ratio", 0.2),
+    ("compute_with_derivative N = 96", "compute_with_derivative, N = 96", "ratio", 1.5),
+    ("compute_with_derivative N = 2700", "compute_with_derivative, N = 2700", "ratio", 0.6),
+    ("grid 181 x 361, N = 96", "grid 181 x 361, N = 96", "ratio", 0.75),
+    ("grid, a row of 361, N = 2700, no tables", "grid 1 x 361, N = 2700, no tables", "ratio", 0.25),
+    ("basin_average N = 96", "basin_average, N = 96", "ratio", 1.0),
+    ("basin_average N = 2700", "basin_average, N = 2700", "ratio", 1.0),
+    ("partials N = 96", "partials N = 96", "ratio", 2.5),
+    ("partials_along N = 96, a point", "partials_along N = 96, a point", "ratio", 0.4),
+    ("analysis N = 96", "analysis N = 96", "ratio", 0.7),
+    ("gauss_legendre n = 181", "gauss_legendre, n = 181", "ratio", 1.0),
+    ("symmetric_eigen n = 32", "symmetric_eigen n = 32", "ratio", 0.9),
+    ("symmetric_eigen n = 33", "symmetric_eigen n = 33", "ratio", 1.0),
+    ("symmetric_eigen n = 181", "symmetric_eigen n = 181", "ratio", 0.6),
+    ("symmetric_eigen n = 512", "symmetric_eigen n = 512", "ratio", 0.6),
+    ("polar_cap L = 60", "polar_cap L = 60", "ratio", 0.8),
+    ("polar_cap L = 180", "polar_cap L = 180", "ratio", 0.8),
+    ("model file read N = 2700, GB/s", "model_read, N = 2700, GB/s", "rate", 1.0),
+    ("model file write N = 2700, GB/s", "model_write, N = 2700, GB/s", "rate", 1.0),
+]
+
+
+def lines(file):
+    """The three numbers of each line, by its name."""
+    found = {}
+    for line in open(file, encoding="utf-8"):
+        words = line.split()
+        try:
+            found[" ".join(words[:-3])] = [float(w) for w in words[-3:]]
+        except ValueError:
+            continue
+    return found
+
+
+def main():
+    printed = lines(sys.argv[1])
+    print(f"{'work':<42}{'ours':>14}{'Rust':>14}{'ours/Rust':>11}{'limit':>8}")
+    absent, beyond = 0, 0
+    for work, name, kind, limit in ROWS:
+        if name not in printed:
+            absent += 1
+            print(f"{work:<42}  not in the benchmark")
+            continue
+        ours, rust, ratio = printed[name]
+        met = ours >= limit if kind == "rate" else (ours if kind == "ours" else ratio) <= limit
+        beyond += not met
+        print(f"{work:<42}{ours:>14.2f}{rust:>14.2f}{ratio:>11.2f}{limit:>8.2f}{'' if met else '  beyond'}")
+    print(f"{len(ROWS)} rows, {beyond} beyond their limit, {absent} absent; times in ns a call where the row says nothing else")
+    sys.exit(1 if absent else 0)
+
+
+if __name__ == "__main__":
+    main()

@@ -1,0 +1,222 @@
+/* geopotential.h: the C entries of the verified gravity-field library libgeopotential.a (x86-64).
+ *
+ * Every entry is proved to end, to refuse exactly what is written here and to hand back the bits of the published recurrences.
+ *
+ * Lists     A list is a pointer and then its length. N is the highest degree nmax and T = (N+1)(N+2)/2; the pair of degree n and order m
+ *           stands at n(n+1)/2 + m. A latitude is its sine t and its cosine u; in a list t stands before its u and a cosine before its
+ *           sine. A pointer is never null, also that of a list of length 0, and no list that is written overlaps another list of the call.
+ * Lengths   For each entry with lists, NAME_lengths answers the length of every list, in the order of the parameters. Input lists have
+ *           exactly that length (Love numbers at least that), outputs and working lists that length or more.
+ * Answers   0 where the call is done, else the number of the refusal below. A refused call writes nothing. A call that is done writes
+ *           its answer at the front of each output and nothing behind it; input lists are never written. What a working list holds in
+ *           its first numbers afterwards is free, the part behind them keeps its bits.
+ * Order     A call checks SIZE, then LENGTH, then LOVE, then SPACE; a number that is no functional is refused before all (255).
+ * NaN       Any number is ordinary input, NaN and infinities too. The bits of a NaN in an answer are free, but in a model file all bits
+ *           are kept.
+ * Threads   No entry has state: calls on other lists may run at the same time. polar_cap takes some 0.8 MB of stack, the others less.
+ */
+#ifndef GEOPOTENTIAL_H
+#define GEOPOTENTIAL_H
+
+#include <stddef.h>
+#include <stdint.h>
+
+#ifdef __cplusplus
+extern "C" {
+#endif
+
+/* What a call answers. */
+enum geopotential_answer {
+    GEOPOTENTIAL_DONE = 0,
+    GEOPOTENTIAL_SIZE = 1,   /* a degree above 2700 (Gauss 2701, matrix 512, cap 180), or more than 65,535 rows, longitudes or points */
+    GEOPOTENTIAL_LENGTH = 2, /* an input list has not exactly its length */
+    GEOPOTENTIAL_SPACE = 3,  /* an output list is shorter than its answer, or a working list too short */
+    GEOPOTENTIAL_PLACE = 4,  /* an entry outside the table */
+    GEOPOTENTIAL_LOVE = 5,   /* water heights without a Love number for each degree */
+    GEOPOTENTIAL_SHORT = 6,  /* a model file ends early */
+    GEOPOTENTIAL_KIND = 7,   /* a model file has another record than the one due */
+    GEOPOTENTIAL_AFTER = 8,  /* a model file goes on after its end */
+    GEOPOTENTIAL_TIDE = 9,   /* a tide system above 3 */
+    GEOPOTENTIAL_NO_FUNCTIONAL = 255
+};
+
+/* The functionals of a field; only water heights read the Love numbers. */
+enum geopotential_functional {
+    GEOPOTENTIAL_POTENTIAL = 0,           /* m^2/s^2 */
+    GEOPOTENTIAL_GEOID_HEIGHT = 1,        /* m */
+    GEOPOTENTIAL_GRAVITY_DISTURBANCE = 2, /* m/s^2 */
+    GEOPOTENTIAL_GRAVITY_ANOMALY = 3,     /* m/s^2 */
+    GEOPOTENTIAL_RADIAL_GRADIENT = 4,     /* 1/s^2 */
+    GEOPOTENTIAL_WATER_HEIGHT = 5         /* m of water on the reference sphere; r and gm are not read */
+};
+
+/* The tide systems of a model file. */
+enum geopotential_tide { GEOPOTENTIAL_TIDE_FREE = 0, GEOPOTENTIAL_ZERO_TIDE = 1, GEOPOTENTIAL_MEAN_TIDE = 2, GEOPOTENTIAL_TIDE_UNKNOWN = 3 };
+
+/* ---- numbers: no refusals */
+
+/* The square root, rounded once. */
+double geopotential_root(double x);
+/* The same bits, by way of a guess at the root, which may be any number: a near one saves time. */
+double geopotential_root_near(double x, double guess);
+double geopotential_hypot(double x, double y);
+/* 1 or -1 by the sign bit, NaN for NaN. */
+double geopotential_signum(double x);
+double geopotential_magnitude(double x);
+/* Powers by repeated squaring. */
+double geopotential_powi(double base, size_t exponent);
+/* The number of a bit pattern; the pattern of a number, 7ff8000000000000 for NaN. */
+double geopotential_number_of_bits(uint64_t bits);
+uint64_t geopotential_bits_of_number(double x);
+/* 1 where x comes strictly before y in the falling order (every NaN equal and first), else 0. */
+uint32_t geopotential_ranks_before(double x, double y);
+
+/* ---- functionals */
+
+/* The factor of degree n. Refused by 255, 1 (n above 2700), 5. *value is left alone on a refusal. */
+uint32_t geopotential_factor(uint32_t functional, const double *love, size_t love_len, size_t n, double gm, double radius, double r,
+                             double *value);
+
+/* ---- coefficients of a field up to degree nmax: c and s of T numbers */
+
+/* Zeros at the front of c and s. Refused by 1, 3. */
+uint32_t geopotential_zeros(double gm, double radius, size_t nmax, double *c, size_t c_len, double *s, size_t s_len);
+/* One coefficient. Refused by 1, 2, 4; *value is left alone on a refusal. */
+uint32_t geopotential_coefficient_c(size_t nmax, const double *c, size_t c_len, size_t n, size_t m, double *value);
+uint32_t geopotential_coefficient_s(size_t nmax, const double *s, size_t s_len, size_t n, size_t m, double *value);
+/* Sets one pair and no other. Refused by 1, 2 (c and s have exactly T numbers), 4. */
+uint32_t geopotential_set(size_t nmax, double *c, size_t c_len, double *s, size_t s_len, size_t n, size_t m, double cnm, double snm);
+/* The field up to the smaller of nmax and cut, which goes to *degree; a cut is never refused. Refused by 1, 2, 3; *degree is left alone on a
+ * refusal. */
+uint32_t geopotential_truncated(size_t nmax, const double *c, size_t c_len, const double *s, size_t s_len, size_t cut, double *outc,
+                                size_t outc_len, double *outs, size_t outs_len, size_t *degree);
+/* The same potential by another gm and radius. Refused by 1, 2, 3. */
+uint32_t geopotential_rescaled(double gm, double radius, size_t nmax, const double *c, size_t c_len, const double *s, size_t s_len,
+                               double newgm, double newradius, double *outc, size_t outc_len, double *outs, size_t outs_len);
+/* The sum of the squares of each degree, N+1 numbers. Refused by 1, 2, 3. */
+uint32_t geopotential_degree_variances(size_t nmax, const double *c, size_t c_len, const double *s, size_t s_len, double *out,
+                                       size_t out_len);
+/* The functional's amplitude of each degree on the reference sphere, N+1 numbers. Refused by 255, 1, 2, 5, 3. */
+uint32_t geopotential_degree_amplitudes(double gm, double radius, size_t nmax, const double *c, size_t c_len, const double *s, size_t s_len,
+                                        uint32_t functional, const double *love, size_t love_len, double *out, size_t out_len);
+
+/* ---- model files: numbers by their bit patterns */
+
+/* Reads a file: T patterns to c and to s, and to head the patterns of gm and radius, the tide system and N. Refused by 6, 7, 9, 1, 8 in the
+ * order of the file, then 3. */
+uint32_t geopotential_model_read(const uint8_t *bytes, size_t bytes_len, uint64_t *c, size_t c_len, uint64_t *s, size_t s_len,
+                                 uint64_t *head, size_t head_len);
+/* Writes a file, 21 + 17 T bytes. Refused by 9, then 1, 2, 3. */
+uint32_t geopotential_model_write(uint64_t gm, uint64_t radius, uint32_t tide, size_t nmax, const uint64_t *c, size_t c_len,
+                                  const uint64_t *s, size_t s_len, uint8_t *out, size_t out_len);
+
+/* ---- tables of the fully normalized Legendre functions, T numbers each */
+
+/* The recursion coefficients a and b, once for all latitudes. Refused by 1, 3. */
+uint32_t geopotential_legendre_new(size_t nmax, double *a, size_t a_len, double *b, size_t b_len);
+/* P(n, m) at one latitude. Refused by 1, 2, 3. */
+uint32_t geopotential_legendre_compute(size_t nmax, double t, double u, const double *a, size_t a_len, const double *b, size_t b_len,
+                                       double *p, size_t p_len);
+/* P(n, m) and its derivative by latitude. Refused by 1, 2, 3. */
+uint32_t geopotential_legendre_compute_with_derivative(size_t nmax, double t, double u, const double *a, size_t a_len, const double *b,
+                                                       size_t b_len, double *p, size_t p_len, double *dp, size_t dp_len);
+/* One entry of a table of P or of its derivatives. Refused by 1, 2, 4; *value is left alone on a refusal. */
+uint32_t geopotential_legendre_entry(size_t nmax, const double *table, size_t table_len, size_t n, size_t m, double *value);
+/* The n nodes and weights of a Gauss-Legendre rule, from n/2 guesses, rounded up, the largest root's first. Refused by 1 (n above 2701), 2,
+ * 3. */
+uint32_t geopotential_gauss_legendre(size_t n, const double *guesses, size_t guesses_len, double *x, size_t x_len, double *w,
+                                     size_t w_len);
+
+/* ---- fields on grids and at points */
+
+/* A functional at radius r on rows by longitudes: out[i * longitudes + j]. latitudes: a pair for each row; trig: for each longitude the cosine
+ * and the sine of m times it, m from 0 to N. Each finite value is proved to lie within a margin of the exact sum of its terms. Refused by 255,
+ * 1, 2, 5, 3. */
+uint32_t geopotential_grid(double gm, double radius, size_t nmax, const double *c, size_t c_len, const double *s, size_t s_len,
+                           uint32_t functional, const double *love, size_t love_len, double r, size_t rows, const double *latitudes,
+                           size_t latitudes_len, size_t longitudes, const double *trig, size_t trig_len, double *work, size_t work_len,
+                           double *out, size_t out_len);
+/* V, its derivatives by r, latitude and longitude, at one point. trig: as for one longitude of a grid. Refused by 1, 2, 3. */
+uint32_t geopotential_partials(double gm, double radius, size_t nmax, const double *c, size_t c_len, const double *s, size_t s_len, double r,
+                               double t, double u, const double *trig, size_t trig_len, double *work, size_t work_len, double *out,
+                               size_t out_len);
+/* The same at many points, four numbers for each; the tables are worked out once. Refused by 1, 2, 3. */
+uint32_t geopotential_partials_along(double gm, double radius, size_t nmax, const double *c, size_t c_len, const double *s, size_t s_len,
+                                     size_t points, const double *radii, size_t radii_len, const double *latitudes, size_t latitudes_len,
+                                     const double *trig, size_t trig_len, double *work, size_t work_len, double *out, size_t out_len);
+/* The gravitational acceleration from the four numbers of a point: north, east, up. Refused by 3. */
+uint32_t geopotential_acceleration_neu(double v, double dr, double dlat, double dlon, double r, double t, double u, double *out,
+                                       size_t out_len);
+/* Gravity: the same with the centrifugal term of a rotation omega. Refused by 3. */
+uint32_t geopotential_gravity_neu(double v, double dr, double dlat, double dlon, double r, double t, double u, double omega, double *out,
+                                  size_t out_len);
+/* The coefficients of a functional's values on N+1 Gauss rows of 2N+2 longitudes, the inverse of grid. trig: order after order, for each
+ * longitude the cosine and the sine of m times it. Refused by 255, 1, 2, 5, 3. */
+uint32_t geopotential_analysis(uint32_t functional, const double *love, size_t love_len, double r, size_t nmax, double gm, double radius,
+                               const double *values, size_t values_len, const double *weights, size_t weights_len, const double *latitudes,
+                               size_t latitudes_len, const double *trig, size_t trig_len, double *work, size_t work_len, double *c,
+                               size_t c_len, double *s, size_t s_len);
+
+/* ---- eigenvalues, caps and basins */
+
+/* The eigenvalues of a symmetric n by n matrix, in no order, and its eigenvectors as columns. One that has not settled is still answered.
+ * Refused by 1 (n above 512), 2, 3. */
+uint32_t geopotential_symmetric_eigen(size_t n, const double *a, size_t a_len, double *work, size_t work_len, double *values,
+                                      size_t values_len, double *vectors, size_t vectors_len);
+/* The same by Householder reduction and QL iteration at every n. */
+uint32_t geopotential_householder_ql(size_t n, const double *a, size_t a_len, double *work, size_t work_len, double *values,
+                                     size_t values_len, double *vectors, size_t vectors_len);
+/* The Slepian functions to degree L of the polar cap whose angle has this cosine, best concentrated first: orders (as numbers),
+ * concentrations, and the vectors end to end, L-m+1 numbers each. weights and latitudes are those of the L+1 Gauss nodes over the cap.
+ * Refused by 1 (L above 180), 2, 3. */
+uint32_t geopotential_polar_cap(size_t lmax, double cosine, const double *weights, size_t weights_len, const double *latitudes,
+                                size_t latitudes_len, double *work, size_t work_len, double *orders, size_t orders_len,
+                                double *concentrations, size_t concentrations_len, double *vectors, size_t vectors_len);
+/* A functional's average over a basin by its kernel, up to the smaller degree. Refused by 255, 1, 2, 5; *value is left alone on a refusal.
+ * A finite value is proved to lie within a margin of the exact sum of its terms. */
+uint32_t geopotential_basin_average(double gm, double radius, size_t nmax, const double *c, size_t c_len, const double *s, size_t s_len,
+                                    size_t kmax, const double *kc, size_t kc_len, const double *ks, size_t ks_len, uint32_t functional,
+                                    const double *love, size_t love_len, double r, double *value);
+
+/* ---- lengths
+ *
+ * Each writes the length of every list of its call to the front of `lengths`, in the order that is named beside it; lists of these lengths are
+ * never refused. Love numbers are told for water heights: other functionals read none. Refused, nothing written, by 1 where the call itself would
+ * be, and by 3 where `lengths` has too few numbers.
+ */
+uint32_t geopotential_factor_lengths(size_t n, size_t *lengths, size_t lengths_len);                   /* love */
+uint32_t geopotential_zeros_lengths(size_t nmax, size_t *lengths, size_t lengths_len);                 /* c, s */
+uint32_t geopotential_coefficient_c_lengths(size_t nmax, size_t *lengths, size_t lengths_len);         /* c */
+uint32_t geopotential_coefficient_s_lengths(size_t nmax, size_t *lengths, size_t lengths_len);         /* s */
+uint32_t geopotential_set_lengths(size_t nmax, size_t *lengths, size_t lengths_len);                   /* c, s */
+uint32_t geopotential_truncated_lengths(size_t nmax, size_t cut, size_t *lengths, size_t lengths_len); /* c, s, outc, outs */
+uint32_t geopotential_rescaled_lengths(size_t nmax, size_t *lengths, size_t lengths_len);              /* c, s, outc, outs */
+uint32_t geopotential_degree_variances_lengths(size_t nmax, size_t *lengths, size_t lengths_len);      /* c, s, out */
+uint32_t geopotential_degree_amplitudes_lengths(size_t nmax, size_t *lengths, size_t lengths_len);     /* c, s, love, out */
+/* bytes, c, s, head, by the first 20 bytes of a file; refused by its head as in model_read. */
+uint32_t geopotential_model_read_lengths(const uint8_t *bytes, size_t bytes_len, size_t *lengths, size_t lengths_len);
+uint32_t geopotential_model_write_lengths(size_t nmax, size_t *lengths, size_t lengths_len);                      /* c, s, out */
+uint32_t geopotential_legendre_new_lengths(size_t nmax, size_t *lengths, size_t lengths_len);                     /* a, b */
+uint32_t geopotential_legendre_compute_lengths(size_t nmax, size_t *lengths, size_t lengths_len);                 /* a, b, p */
+uint32_t geopotential_legendre_compute_with_derivative_lengths(size_t nmax, size_t *lengths, size_t lengths_len); /* a, b, p, dp */
+uint32_t geopotential_legendre_entry_lengths(size_t nmax, size_t *lengths, size_t lengths_len);                   /* table */
+uint32_t geopotential_gauss_legendre_lengths(size_t n, size_t *lengths, size_t lengths_len);                      /* guesses, x, w */
+/* c, s, love, latitudes, trig, work, out */
+uint32_t geopotential_grid_lengths(size_t nmax, size_t rows, size_t longitudes, size_t *lengths, size_t lengths_len);
+uint32_t geopotential_partials_lengths(size_t nmax, size_t *lengths, size_t lengths_len); /* c, s, trig, work, out */
+/* c, s, radii, latitudes, trig, work, out */
+uint32_t geopotential_partials_along_lengths(size_t nmax, size_t points, size_t *lengths, size_t lengths_len);
+uint32_t geopotential_acceleration_neu_lengths(size_t *lengths, size_t lengths_len);      /* out */
+uint32_t geopotential_gravity_neu_lengths(size_t *lengths, size_t lengths_len);           /* out */
+uint32_t geopotential_analysis_lengths(size_t nmax, size_t *lengths, size_t lengths_len); /* love, values, weights, latitudes, trig, work, c, s */
+uint32_t geopotential_symmetric_eigen_lengths(size_t n, size_t *lengths, size_t lengths_len); /* a, work, values, vectors */
+uint32_t geopotential_householder_ql_lengths(size_t n, size_t *lengths, size_t lengths_len);  /* a, work, values, vectors */
+/* weights, latitudes, work, orders, concentrations, vectors */
+uint32_t geopotential_polar_cap_lengths(size_t lmax, size_t *lengths, size_t lengths_len);
+uint32_t geopotential_basin_average_lengths(size_t nmax, size_t kmax, size_t *lengths, size_t lengths_len); /* c, s, kc, ks, love */
+
+#ifdef __cplusplus
+}
+#endif
+
+#endif
