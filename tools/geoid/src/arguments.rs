@@ -1,0 +1,127 @@
+//! The words behind a command: its operands and its options.
+
+use std::collections::BTreeMap;
+use std::ffi::{OsStr, OsString};
+use std::path::Path;
+
+use crate::error::Error;
+
+/// One option of a command, as its help shows it. An empty `value` makes it a switch.
+pub struct Opt {
+    pub name: &'static str,
+    pub value: &'static str,
+    pub help: &'static str,
+}
+
+/// What a command line gives: its operands in order, and each option's value.
+#[derive(Debug, Default)]
+pub struct Arguments {
+    operands: Vec<OsString>,
+    options: BTreeMap<&'static str, OsString>,
+}
+
+impl Arguments {
+    /// Sort the words behind a command by the options it knows. An option's value is the next word,
+    /// whatever it begins with (`--region -10/20/35/60`), or stands behind a `=`.
+    pub fn parse(words: Vec<OsString>, known: &[Opt]) -> Result<Self, Error> {
+        let mut found = Arguments::default();
+        let mut words = words.into_iter();
+        while let Some(word) = words.next() {
+            if word == "--" {
+                found.operands.extend(words.by_ref());
+            } else if word.as_encoded_bytes().starts_with(b"-") && word != "-" {
+                found.option(&word, &mut words, known)?;
+            } else {
+                found.operands.push(word);
+            }
+        }
+        Ok(found)
+    }
+
+    fn option(&mut self, word: &OsStr, words: &mut impl Iterator<Item = OsString>, known: &[Opt]) -> Result<(), Error> {
+        let shown = word.to_string_lossy();
+        let (name, joined) = match shown.split_once('=') {
+            Some((name, value)) => (name, Some(OsString::from(value))),
+            None => (&*shown, None),
+        };
+        let opt = known.iter().find(|opt| opt.name == name).ok_or_else(|| Error::usage(format!("unknown option '{name}'")))?;
+        let value = match (opt.value, joined) {
+            ("", None) => OsString::new(),
+            ("", Some(_)) => return Err(Error::usage(format!("option {name} takes no value"))),
+            (_, Some(value)) => value,
+            (due, None) => words.next().ok_or_else(|| Error::usage(format!("option {name} needs a value: {name} {due}")))?,
+        };
+        match self.options.insert(opt.name, value) {
+            None => Ok(()),
+            Some(_) => Err(Error::usage(format!("option {name} is given twice"))),
+        }
+    }
+
+    /// Check that there are just the operands that a command names.
+    pub fn expect_operands(&self, names: &[&str]) -> Result<(), Error> {
+        if let Some(missing) = names.get(self.operands.len()) {
+            return Err(Error::usage(format!("{missing} is missing")));
+        }
+        match self.operands.get(names.len()) {
+            Some(extra) => Err(Error::usage(format!("unexpected word '{}'", extra.to_string_lossy()))),
+            None => Ok(()),
+        }
+    }
+
+    /// The operand at a place that [`expect_operands`](Self::expect_operands) has checked.
+    pub fn operand(&self, place: usize) -> &Path {
+        Path::new(&self.operands[place])
+    }
+
+    /// Whether an option is given.
+    pub fn has(&self, name: &str) -> bool {
+        self.options.contains_key(name)
+    }
+
+    /// An option's value as a path.
+    pub fn path(&self, name: &str) -> Option<&Path> {
+        self.options.get(name).map(Path::new)
+    }
+
+    /// An option's value as text.
+    pub fn text(&self, name: &str) -> Result<Option<&str>, Error> {
+        match self.options.get(name) {
+            None => Ok(None),
+            Some(value) => value.to_str().map(Some).ok_or_else(|| Error::usage(format!("the value of {name} is not UTF-8 text"))),
+        }
+    }
+
+    /// An option's value as a finite number.
+    pub fn number(&self, name: &str) -> Result<Option<f64>, Error> {
+        let Some(text) = self.text(name)? else { return Ok(None) };
+        match text.parse::<f64>() {
+            Ok(value) if value.is_finite() => Ok(Some(value)),
+            _ => Err(Error::usage(format!("{name} is '{text}'; expected a number"))),
+        }
+    }
+
+    /// An option's value as a positive finite number.
+    pub fn positive(&self, name: &str) -> Result<Option<f64>, Error> {
+        match self.number(name)? {
+            Some(value) if value <= 0.0 => Err(Error::usage(format!("{name} is {value}; expected a number above 0"))),
+            value => Ok(value),
+        }
+    }
+
+    /// An option's value as a whole number from 0.
+    pub fn whole(&self, name: &str) -> Result<Option<u64>, Error> {
+        let Some(text) = self.text(name)? else { return Ok(None) };
+        text.parse().map(Some).map_err(|_| Error::usage(format!("{name} is '{text}'; expected a whole number from 0")))
+    }
+
+    /// An option's value as a degree (or another count), 0 to `largest`.
+    pub fn count(&self, name: &str, largest: usize) -> Result<Option<usize>, Error> {
+        match self.whole(name)? {
+            None => Ok(None),
+            Some(value) => match usize::try_from(value) {
+                Ok(value) if value <= largest => Ok(Some(value)),
+                _ => Err(Error::usage(format!("{name} is {value}; expected a whole number from 0 to {largest}"))),
+            },
+        }
+    }
+}

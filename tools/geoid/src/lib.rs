@@ -1,0 +1,27 @@
+//! Gravity-field models on the command line, over the verified library `geopotential`.
+//!
+//! A command reads its arguments, asks the library, and answers the text for standard output; only
+//! [`commands::main`] prints. Files are written whole or not at all ([`output`]).
+
+pub mod arguments;
+pub mod canvas;
+pub mod colours;
+pub mod commands;
+pub mod deflate;
+pub mod error;
+pub mod field_file;
+pub mod font;
+pub mod formats;
+pub mod gfc;
+pub mod grid;
+pub mod love;
+pub mod map;
+pub mod normal;
+pub mod output;
+pub mod plot;
+pub mod png;
+pub mod progress;
+pub mod quantity;
+pub mod random;
+pub mod sample;
+pub mod scale;
