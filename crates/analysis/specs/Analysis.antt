@@ -1,20 +1,21 @@
 -- The coefficients of a functional's values on a grid of N + 1 rows and 2N + 2 longitudes: the sums over the longitudes and the rows, the division by
 -- the factors, and the checks of the call. Definitions only.
-use mathlib.Core.Bool.{Bool, cond, not}
+use mathlib.Core.Bool.{Bool, not}
 use mathlib.Core.List.{List}
 use Prim.Native.Nat.{ℕ, _+_, _*_}
 use lib.Dec.{ltb, eqb}
 use lib.ListN.{getD}
-use lib.Ieee.{Float, nan, binary64, eq}
+use lib.Ieee.{Float, nan, binary64}
 use Rattle.refusal.specs.Numbers.{refuse}
 use Rattle.refusal.specs.declared.Answer.{Answer}
 use Rattle.refusal.specs.declared.Refusal.the-variants.{Size, Length, Love, Space}
-use Rattle.number.specs.Float64.{_⊗_, _⊘_, ofWhole, zero64}
+use Rattle.number.specs.Float64.{_⊗_, _⊘_, ofWhole}
 use Rattle.storage.specs.Checks.{spaceCheck}
 use Rattle.storage.specs.Triangle.{tableSize}
-use Rattle.legendre.specs.Recursion.{two64}
+use Rattle.recursion.specs.Recursion.{two64}
 use Rattle.legendre.specs.Directions.{legendreRow}
 use Rattle.rounding.specs.Sums.{zero⁺, runningSum}
+use Rattle.legendre_analysis.specs.Division.{divided}
 
 -- the longitudes of a row, and the points of all rows
 abbrev pub longitudesOf : ℕ → ℕ
@@ -62,10 +63,6 @@ unfoldable pub rowsSum : (weight : ℕ → Float) (P : ℕ → ℕ → ℕ → F
 rowsSum weight P sums rows n m = runningSum binary64 (rowTerm weight P sums n m) rows zero⁺
 
 -- ---- the entries
--- x over the factor, and +0.0 where the factor equals 0, of either sign
-unfoldable pub divided : Float → Float → Float
-divided factor x = cond (eq factor zero64) zero64 (x ⊘ factor)
-
 -- the entry (n, m): of C with the sums `cosineSum values trig N`, of S with `sineSum values trig N`
 unfoldable pub analysisCell : (factor : ℕ → Float) (weights lats : List Float) (sums : ℕ → ℕ → Float) (N n m : ℕ) → Float
 analysisCell factor weights lats sums N n m = divided (factor n) (rowsSum (rowWeight weights N) (legendreRow lats) sums (N + 1) n m)

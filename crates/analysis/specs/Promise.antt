@@ -1,24 +1,31 @@
 -- What `analysis` promises of its answer, its outputs and its working list. Assumes nothing.
 use mathlib.Core.Path.{_≡_, refl, sym, ap, _∙_}
+use mathlib.Core.Bool.{true}
 use mathlib.Core.List.{List}
 use Prim.Native.Nat.{ℕ, _+_, _*_, _≤_, _<_}
 use native.Mathlib.Nat.{le-refl, zero-add}
 use native.Mathlib.Omega.{arith}
 use lib.ListN.{length, getD, drop}
-use lib.Ieee.{Float, nan, binary64}
-use Rattle.number.specs.Float64.{_⊗_}
+use lib.Ieee.{Float, nan, binary64, eq}
+use Rattle.number.specs.Float64.{_⊗_, zero64}
 use Rattle.storage.specs.Elements.{zeroAt, from, from-zero}
 use Rattle.storage.specs.Fill.{fill, length-fill, drop-fill}
 use Rattle.storage.specs.Filled.{Filled, filled, filled-in, filled-before, filled-same, filled-again}
 use Rattle.storage.specs.Triangle.{idx, tableSize, along, along-same, rows-at, idx-within}
-use Rattle.legendre.specs.Recursion.{aCell, bCell, p-same}
+use Rattle.recursion.specs.Recursion.{aCell, bCell, p-same}
 use Rattle.legendre.specs.Directions.{rowSine, rowCosine, legendreRow}
-use Rattle.legendre.specs.Tables.{withTables}
+use Rattle.recursion.specs.Tables.{withTables}
 use Rattle.rounding.specs.Sums.{zero⁺}
 use Rattle.rounding.specs.SumSteps.{running-same}
-use Rattle.analysis.specs.Analysis.{cosineSum, sineSum, rowWeight, rowTerm, rowsSum, divided, analysisCell}
+use Rattle.analysis.specs.Analysis.{cosineSum, sineSum, rowWeight, rowTerm, rowsSum, analysisCell}
 use Rattle.analysis.specs.Rows.{legendreBy}
-use Rattle.analysis.specs.Division.{dividedCell}
+use Rattle.legendre_analysis.specs.Division.{divided, dividedCell}
+
+-- a degree whose factor equals 0 gets zeros, whatever the sums over the rows are
+pub zero-factor : (factor : ℕ → Float) (weights lats : List Float) (sums : ℕ → ℕ → Float) (N n m : ℕ) → eq (factor n) zero64 ≡ true
+    → analysisCell factor weights lats sums N n m ≡ zero64
+unfolding analysisCell divided
+zero-factor factor weights lats sums N n m e = rw e refl
 
 module _ (values weights lats trig : List Float) (N : ℕ) where
   -- the sums over all rows, before the division

@@ -1,7 +1,7 @@
 -- The rows added one after the other to the entries. Assumes nothing.
 use mathlib.Core.Path.{_≡_, sym, ap, ap₂, _∙_}
 use mathlib.Core.List.{List}
-use Prim.Native.Nat.{ℕ, _+_, _≤_, _<_}
+use Prim.Native.Nat.{ℕ, _+_, _*_, _≤_, _<_}
 use native.Mathlib.Nat.{le-refl, zero-add}
 use native.Mathlib.Omega.{arith}
 use lib.ListN.{length, getD}
@@ -10,12 +10,14 @@ use Rattle.number.specs.Float64.{_⊕_, _⊗_, _⊘_, ofWhole}
 use Rattle.storage.specs.Elements.{zeroAt, from}
 use Rattle.storage.specs.Filled.{Filled, filled-same, filled-again}
 use Rattle.storage.specs.Triangle.{idx, tableSize, along, along-same, rows-at, idx-within}
-use Rattle.legendre.specs.Recursion.{two64, pCell}
+use Rattle.recursion.specs.Recursion.{two64, pCell}
 use Rattle.legendre.specs.Directions.{rowSine, rowCosine}
 use Rattle.rounding.specs.Sums.{zero⁺}
-use Rattle.rounding.specs.SumSteps.{running-none, running-more}
-use Rattle.analysis.specs.Analysis.{longitudesOf, rowWeight, rowTerm, rowsSum}
-use Rattle.analysis.specs.Degrees.{addedCell}
+use Rattle.rounding.specs.SumSteps.{running-none, running-more, running-same}
+use Rattle.fourier_analysis.specs.Longitudes.{termFrom, sumFrom, cosinesFrom, sinesFrom}
+use Rattle.analysis.specs.Analysis.{longitudesOf, valueAt, cosineAt, sineAt, cosineTerm, sineTerm, cosineSum, sineSum}
+use Rattle.analysis.specs.Analysis.{rowWeight, rowTerm, rowsSum}
+use Rattle.legendre_analysis.specs.Degrees.{addedCell}
 
 -- the lists that a row is worked out in, by their lengths, have room for the degrees and orders up to nmax
 pub record RowRoom (nmax a b sectorals r even odd sums c s : ℕ) : Type 0 where
@@ -60,6 +62,26 @@ pub row-weight-is : (weights : List Float) (N i L : ℕ) {w : Float} → L ≡ l
     → w ≡ rowWeight weights N i
 unfolding rowWeight
 row-weight-is weights N i L e h = h ∙ ap (λ (l : ℕ). getD weights i nan ⊘ (two64 ⊗ ofWhole l)) e
+
+-- ---- the sums over the longitudes of row i are those of the definitions
+module _ (values trig : List Float) where
+  pub cosines-are : (N i m : ℕ) {at L : ℕ} → L ≡ longitudesOf N → at ≡ i * L → cosinesFrom values trig at L m ≡ cosineSum values trig N i m
+  unfolding cosinesFrom cosineSum termFrom cosineTerm valueAt cosineAt
+  cosines-are N i m {at} {L} el ea =
+      ap (λ (l : ℕ). sumFrom values trig at (m * (l + l)) l) el
+      ∙ ap (λ (x : ℕ). sumFrom values trig x (m * (longitudesOf N + longitudesOf N)) (longitudesOf N)) (ea ∙ ap (λ (l : ℕ). i * l) el)
+      ∙ running-same binary64 (termFrom values trig (i * longitudesOf N) (m * (longitudesOf N + longitudesOf N))) (cosineTerm values trig N i m)
+      (longitudesOf N) zero⁺
+      (λ j h. ap (λ (k : ℕ). valueAt values N i j ⊗ getD trig k nan) (omega arith))
+
+  pub sines-are : (N i m : ℕ) {at L : ℕ} → L ≡ longitudesOf N → at ≡ i * L → sinesFrom values trig at L m ≡ sineSum values trig N i m
+  unfolding sinesFrom sineSum termFrom sineTerm valueAt sineAt
+  sines-are N i m {at} {L} el ea =
+      ap (λ (l : ℕ). sumFrom values trig at (m * (l + l) + 1) l) el
+      ∙ ap (λ (x : ℕ). sumFrom values trig x (m * (longitudesOf N + longitudesOf N) + 1) (longitudesOf N)) (ea ∙ ap (λ (l : ℕ). i * l) el)
+      ∙ running-same binary64 (termFrom values trig (i * longitudesOf N) (m * (longitudesOf N + longitudesOf N) + 1)) (sineTerm values trig N i m)
+      (longitudesOf N) zero⁺
+      (λ j h. ap (λ (k : ℕ). valueAt values N i j ⊗ getD trig k nan) (omega arith))
 
 -- the same sums over the longitudes, said otherwise
 pub added-by : (weight : Float) (P : ℕ → ℕ → Float) (X Y : ℕ → Float) (N : ℕ) {c c′ : List Float} → ((m : ℕ) → m < N + 1 → X m ≡ Y m)

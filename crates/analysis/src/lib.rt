@@ -1,7 +1,4 @@
 // The coefficients of a field from the values of a functional on a grid: Gauss–Legendre quadrature over the latitudes, a plain sum over the longitudes.
-pub mod degrees;
-pub mod division;
-pub mod longitudes;
 pub mod rows;
 pub mod workspace;
 

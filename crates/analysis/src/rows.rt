@@ -8,10 +8,10 @@ ghost use Rattle.number.specs.Float64.{_⊗_, _⊘_, ofWhole};
 ghost use Rattle.storage.specs.Elements.{zeroAt, from};
 ghost use Rattle.storage.specs.Filled.{Filled};
 ghost use Rattle.storage.specs.Triangle.{tableSize, along};
-ghost use Rattle.legendre.specs.Recursion.{two64, pmm, pCell};
+ghost use Rattle.recursion.specs.Recursion.{two64, pmm, pCell};
 ghost use Rattle.analysis.specs.Analysis.{longitudesOf, cosineSum, sineSum, rowWeight, rowsSum};
-ghost use Rattle.analysis.specs.Longitudes.{cosinesFrom, sinesFrom};
-ghost use Rattle.analysis.specs.Degrees.{addedCell};
+ghost use Rattle.fourier_analysis.specs.Longitudes.{cosinesFrom, sinesFrom};
+ghost use Rattle.legendre_analysis.specs.Degrees.{addedCell};
 ghost use Rattle.analysis.specs.Rows.{RowRoom, legendreBy};
 
 // A row's weight over twice its longitudes.
@@ -58,9 +58,9 @@ fn add_row(
 {
     let t = latitude.t;
     let u = latitude.u;
-    crate::longitudes::order_sums(nmax, longitudes, at, values, trig, sums);
+    fourier_analysis::order_sums(nmax, longitudes, at, values, trig, sums);
     legendre::rows::rescales(nmax, u, r);
-    crate::degrees::add_degrees(
+    legendre_analysis::degrees::add_degrees(
         nmax,
         t,
         u,

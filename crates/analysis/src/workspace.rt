@@ -32,7 +32,7 @@ fn sum_rows(
 {
     let total = storage::table_size(nmax);
     let longitudes = nmax + nmax + 2;
-    legendre::recursion::tables(nmax, total, work);
+    recursion::tables(nmax, total, work);
     legendre::rows::sectorals(nmax, sectorals);
     storage::clear(total, c);
     storage::clear(total, s);
@@ -102,7 +102,7 @@ fn analysis_in(
         c,
         s,
     );
-    crate::division::divide(functional, love, r, nmax, gm, radius, factors, c, s);
+    legendre_analysis::division::divide(functional, love, r, nmax, gm, radius, factors, c, s);
 }
 
 // A low degree, in short arrays: an array is cleared before it is used.

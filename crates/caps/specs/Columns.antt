@@ -10,7 +10,7 @@ use Rattle.number.specs.Float64.{_⊖_, _⊗_, zero64}
 use Rattle.storage.specs.Elements.{from, from-zero}
 use Rattle.storage.specs.Triangle.{rowStart, idx, tableSize, along, row-start-more, row-start-monotone, idx-within}
 use Rattle.legendre.specs.Directions.{rowSine, rowCosine, legendreRow}
-use Rattle.legendre.specs.Recursion.{aCell, bCell, pmm, rescale, step, q, qCell, pCell, p-same}
+use Rattle.recursion.specs.Recursion.{aCell, bCell, pmm, rescale, step, q, qCell, pCell, p-same}
 
 from-at : (w : List Float) (T : ℕ) {at at′ : ℕ} → at ≡ at′ → getD w (T + at) nan ≡ from T w nan at′
 unfolding from

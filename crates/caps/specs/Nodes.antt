@@ -14,7 +14,7 @@ use Rattle.storage.specs.Triangle.{rowStart}
 use Rattle.rounding.specs.Sums.{zero⁺, runningSum}
 use Rattle.rounding.specs.SumSteps.{running-none, running-more}
 use Rattle.legendre.specs.Directions.{rowSine, rowCosine}
-use Rattle.legendre.specs.Recursion.{scale64, rescale, rescale-more}
+use Rattle.recursion.specs.Recursion.{scale64, rescale, rescale-more}
 use Rattle.matrix.specs.Matrix.{row-of, column-of}
 use Rattle.caps.specs.Caps.{capFactor, nodeTerm, concentrationCell}
 use Rattle.caps.specs.Columns.{columnCell, TablesIn, column-is}

@@ -7,7 +7,7 @@ ghost use lib.Ieee.{nan};
 ghost use Rattle.storage.specs.Elements.{from};
 ghost use Rattle.storage.specs.Filled.{Filled};
 ghost use Rattle.storage.specs.Triangle.{idx, rowStart};
-ghost use Rattle.legendre.specs.Recursion.{pmm};
+ghost use Rattle.recursion.specs.Recursion.{pmm};
 ghost use Rattle.caps.specs.Columns.{columnCell};
 
 // The numbers of the degrees m to m + k - 1, by the tables of the recursion at the front of `work`, of `total` numbers each. The column starts with its

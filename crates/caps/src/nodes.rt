@@ -8,7 +8,7 @@ ghost use Rattle.storage.specs.Elements.{zeroAt};
 ghost use Rattle.storage.specs.Filled.{Filled};
 ghost use Rattle.storage.specs.Rectangle.{byRows};
 ghost use Rattle.storage.specs.Triangle.{idx};
-ghost use Rattle.legendre.specs.Recursion.{pmm};
+ghost use Rattle.recursion.specs.Recursion.{pmm};
 ghost use Rattle.caps.specs.Caps.{capFactor, concentrationCell};
 ghost use Rattle.caps.specs.Columns.{TablesIn};
 ghost use Rattle.caps.specs.Nodes.{addedCell, addedNode, addedBy, rescaleOf, firstRescale, nextRescale, NodeRoom};

@@ -15,8 +15,8 @@ use Rattle.storage.specs.Checks.{_andThen_, tablesCheck}
 use Rattle.storage.specs.Fill.{fill, fill-same}
 use Rattle.storage.specs.Rectangle.{byRows, by-row}
 use Rattle.legendre.specs.Directions.{rowSine, rowCosine}
-use Rattle.partials.specs.declared.local.Partials.{Partials}
-use Rattle.partials.specs.Point.{pointAt, component, alongCell, partialsCheck, alongCheck, workSize}
+use Rattle.local.specs.declared.Partials.{Partials}
+use Rattle.local.specs.Point.{pointAt, component, alongCell, partialsCheck, alongCheck, workSize}
 
 -- the checks of one point, and SPACE for its four numbers
 unfoldable pub pointCheck : (nmax clen slen trig work out : ℕ) → Answer

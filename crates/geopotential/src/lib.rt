@@ -8,6 +8,7 @@ mod caps;
 mod fields;
 mod files;
 mod functionals;
+mod lists;
 mod matrices;
 mod models;
 mod numbers;

@@ -2,7 +2,7 @@
 use coefficients::Head;
 use coefficients::TideSystem;
 use legendre::Latitude;
-use partials::local::Partials;
+use local::Partials;
 ghost use mathlib.Core.Path.{_≡_};
 ghost use Prim.Native.Nat.{ℕ, _*_, _≤_};
 ghost use lib.ListN.{length};
@@ -12,8 +12,8 @@ ghost use Rattle.storage.specs.Elements.{from};
 ghost use Rattle.storage.specs.Fill.{fill};
 ghost use Rattle.storage.specs.Filled.{Filled};
 ghost use Rattle.storage.specs.Rectangle.{byRows};
-ghost use Rattle.partials.specs.Point.{pointAt, component, alongCell, alongCheck, workSize};
-ghost use Rattle.partials.specs.Local.{accelerationOf, gravityOf};
+ghost use Rattle.local.specs.Point.{pointAt, component, alongCell, alongCheck, workSize};
+ghost use Rattle.local.specs.Local.{accelerationOf, gravityOf};
 ghost use Rattle.geopotential.specs.Points.{pointCheck, threeCheck, four};
 
 // The four numbers go to the front of `out`: V, ∂V/∂r, ∂V/∂φ, ∂V/∂λ. It is a list of one point.

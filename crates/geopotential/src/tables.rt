@@ -8,8 +8,8 @@ ghost use Rattle.storage.specs.Checks.{roomCheck, outputsCheck, entryAnswer};
 ghost use Rattle.storage.specs.Elements.{from};
 ghost use Rattle.storage.specs.Fill.{fill};
 ghost use Rattle.storage.specs.Triangle.{tableSize, along};
-ghost use Rattle.legendre.specs.Recursion.{aCell, bCell, pCell};
-ghost use Rattle.legendre.specs.Derivative.{dpCell};
+ghost use Rattle.recursion.specs.Recursion.{aCell, bCell, pCell};
+ghost use Rattle.derivative.specs.Derivative.{dpCell};
 ghost use Rattle.legendre.specs.Checks.{computeCheck};
 ghost use Rattle.quadrature.specs.Gauss.{gaussCheck, gaussNode, gaussWeight};
 

@@ -4,7 +4,7 @@ use Prim.Native.Nat.{ℕ, _+_, _*_}
 use lib.ListN.{getD}
 use lib.Ieee.{Float, nan}
 use Rattle.storage.specs.Triangle.{along}
-use Rattle.legendre.specs.Recursion.{aCell, bCell, pCell}
+use Rattle.recursion.specs.Recursion.{aCell, bCell, pCell}
 
 -- the sine t and the cosine u of the latitude of row i
 unfoldable pub rowSine : List Float → ℕ → Float

@@ -15,7 +15,7 @@ use Rattle.number.specs.Root.{rootOf}
 use Rattle.storage.specs.Elements.{from, from-zero}
 use Rattle.storage.specs.Filled.{Filled, filled-none, filled-same, filled-self, filled-in, filled-to}
 use Rattle.storage.specs.Triangle.{rowStart, idx, along, row-start-zero, row-start-more, rows-more}
-use Rattle.legendre.specs.Recursion.{scale64, step, pmm, rescale, sectoralRatio, qCell, pCell, pmm-zero, pmm-more, q-sectoral, q-second, q-step}
+use Rattle.recursion.specs.Recursion.{scale64, step, pmm, rescale, sectoralRatio, qCell, pCell, pmm-zero, pmm-more, q-sectoral, q-second, q-step}
 
 -- Row n of q from the row before it, newer, and the one before that, older: the coefficients of the row start at index at of a and of b,
 -- the second number of a column has none but its sectoral number before it, and the row's last number is pmm.

@@ -1,8 +1,6 @@
 // Fully normalized associated Legendre functions (4π normalization, no Condon–Shortley phase), by the modified forward column recursion of
 // Holmes & Featherstone (2002): it runs on P(n, m) / u^m, scaled by 1e-280 so that it cannot overflow, and the power of the cosine u comes last.
-pub mod derivative;
 pub mod directions;
-pub mod recursion;
 pub mod rows;
 
 use refusal::Answer;
@@ -18,8 +16,8 @@ ghost use Rattle.storage.specs.Elements.{from};
 ghost use Rattle.storage.specs.Fill.{fill};
 ghost use Rattle.storage.specs.Filled.{Filled};
 ghost use Rattle.storage.specs.Triangle.{tableSize, along};
-ghost use Rattle.legendre.specs.Recursion.{aCell, bCell, pCell};
-ghost use Rattle.legendre.specs.Derivative.{dpCell};
+ghost use Rattle.recursion.specs.Recursion.{aCell, bCell, pCell};
+ghost use Rattle.derivative.specs.Derivative.{dpCell};
 ghost use Rattle.legendre.specs.Checks.{computeCheck};
 
 // A geocentric latitude by its sine t and its cosine u.

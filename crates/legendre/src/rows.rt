@@ -9,7 +9,7 @@ ghost use Rattle.number.specs.Root.{rootOf};
 ghost use Rattle.storage.specs.Elements.{from};
 ghost use Rattle.storage.specs.Filled.{Filled};
 ghost use Rattle.storage.specs.Triangle.{tableSize, along};
-ghost use Rattle.legendre.specs.Recursion.{sectoralRatio, pmm, rescale, step, pCell};
+ghost use Rattle.recursion.specs.Recursion.{sectoralRatio, pmm, rescale, step, pCell};
 ghost use Rattle.legendre.specs.Rows.{nextRow, scaledRow};
 
 // u^m / 1e-280 for the orders m up to nmax.

@@ -11,7 +11,7 @@ use Rattle.refusal.specs.declared.Answer.the-variants.{Done, Refused}
 use Rattle.refusal.specs.declared.Refusal.{Refusal}
 use Rattle.refusal.specs.declared.Refusal.the-variants.{Size, Length, Space}
 use Rattle.storage.specs.Checks.{tablesCheck, Tables, tables-passed, both, past, same, refused-then, done-then}
-use Rattle.partials.specs.Point.{workSize, partialsCheck, alongCheck}
+use Rattle.local.specs.Point.{workSize, partialsCheck, alongCheck}
 
 -- what passed checks tell: a record, whose fields `omega` finds
 pub record Accepted (nmax clen slen points radii lats trig work out : ℕ) : Type 0 where

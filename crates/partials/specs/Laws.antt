@@ -13,9 +13,9 @@ use Rattle.storage.specs.Checks.{tables-done}
 use Rattle.legendre.specs.Directions.{cosines, sines}
 use Rattle.rounding.specs.Sums.{zero⁺}
 use Rattle.rounding.specs.SumSteps.{running-same}
-use Rattle.partials.specs.declared.local.Point.the-variants.{At}
-use Rattle.partials.specs.Point.{evenRow, eastRow, runningPower, degreeTerm, degreeSum, radialSum, partialsOf, pointAt, pointIf, partialsCheck}
-use Rattle.partials.specs.Sums.{even-same, east-same}
+use Rattle.local.specs.declared.Point.the-variants.{At}
+use Rattle.local.specs.Point.{evenRow, eastRow, runningPower, degreeTerm, degreeSum, radialSum, partialsOf, pointAt, pointIf, partialsCheck}
+use Rattle.point_sums.specs.Sums.{even-same, east-same}
 use Rattle.partials.specs.Checks.{Accepted, one-passed}
 
 -- rows that agree in the degrees below k have the same sums

@@ -15,14 +15,14 @@ use Rattle.storage.specs.Fill.{fill, length-fill, drop-fill}
 use Rattle.storage.specs.Filled.{Filled, filled, filled-in, filled-before, filled-same}
 use Rattle.storage.specs.Rectangle.{byRows, by-rows-at}
 use Rattle.storage.specs.Triangle.{tableSize, along}
-use Rattle.legendre.specs.Recursion.{aCell, bCell}
-use Rattle.legendre.specs.Derivative.{weightCell}
+use Rattle.recursion.specs.Recursion.{aCell, bCell}
+use Rattle.derivative.specs.Derivative.{weightCell}
 use Rattle.legendre.specs.Directions.{rowSine, rowCosine}
-use Rattle.legendre.specs.Tables.{withTables, second-table}
-use Rattle.partials.specs.declared.local.Partials.{Partials}
-use Rattle.partials.specs.declared.local.Point.the-variants.{At, Refused}
-use Rattle.partials.specs.Point.{pointAt, pointIf, component, alongCell, workSize}
-use Rattle.partials.specs.Sums.{Tabled}
+use Rattle.recursion.specs.Tables.{withTables, second-table}
+use Rattle.local.specs.declared.Partials.{Partials}
+use Rattle.local.specs.declared.Point.the-variants.{At, Refused}
+use Rattle.local.specs.Point.{pointAt, pointIf, component, alongCell, workSize}
+use Rattle.point_sums.specs.Sums.{Tabled}
 
 -- ---- the working list
 -- w with the tables of the recursion and the weights of the derivative up to degree N at its front

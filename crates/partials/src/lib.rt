@@ -1,7 +1,5 @@
 // The gravitational potential of a field and its first partial derivatives at points.
-pub mod local;
 pub mod points;
-pub mod sums;
 pub mod workspace;
 
 use coefficients::Head;
@@ -16,7 +14,7 @@ ghost use lib.ListN.{length};
 ghost use Rattle.refusal.specs.Numbers.{after, behind};
 ghost use Rattle.storage.specs.Fill.{fill};
 ghost use Rattle.storage.specs.Rectangle.{byRows};
-ghost use Rattle.partials.specs.Point.{pointAt, pointIf, alongCell, workSize, partialsCheck, alongCheck};
+ghost use Rattle.local.specs.Point.{pointAt, pointIf, alongCell, workSize, partialsCheck, alongCheck};
 
 // The most points of a call.
 pub const MAX_POINTS: usize = 65535;

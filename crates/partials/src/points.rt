@@ -1,14 +1,14 @@
 // The points of a call, one after the other.
-use crate::local::Partials;
 use legendre::Latitude;
+use local::Partials;
 ghost use mathlib.Core.Path.{_≡_};
 ghost use Prim.Native.Nat.{ℕ, _+_, _*_, _≤_};
 ghost use lib.ListN.{length};
 ghost use Rattle.storage.specs.Filled.{Filled};
 ghost use Rattle.storage.specs.Rectangle.{byRows};
-ghost use Rattle.legendre.specs.Recursion.{pmm};
-ghost use Rattle.partials.specs.Point.{pointAt, component, alongCell};
-ghost use Rattle.partials.specs.Sums.{Tabled, PointRoom};
+ghost use Rattle.recursion.specs.Recursion.{pmm};
+ghost use Rattle.local.specs.Point.{pointAt, component, alongCell};
+ghost use Rattle.point_sums.specs.Sums.{Tabled, PointRoom};
 
 // V and its derivatives at point i, at radius r; the arrays that are lent to change are overwritten.
 fn point(
@@ -42,7 +42,7 @@ fn point(
     let t = latitude.t;
     let u = latitude.u;
     legendre::rows::rescales(nmax, u, rescales);
-    let sums = crate::sums::add_degrees(
+    let sums = point_sums::add_degrees(
         nmax,
         k,
         q,

@@ -13,9 +13,9 @@ fn tables(nmax: usize, total: usize, work: &mut [f64])
     requires { ⌜ nmax ≤ 2700 ⌝ ∗ ⌜ total ≡ tableSize nmax ⌝ ∗ ⌜ total + total + total ≤ length (now work) ⌝ }
     ensures { λ _. ⌜ now (work .exit) ≡ withWeights nmax (now (work .entry)) ⌝ }
 {
-    legendre::recursion::tables(nmax, total, work);
+    recursion::tables(nmax, total, work);
     let at = total + total;
-    legendre::derivative::weights(nmax, &mut work[at..]);
+    derivative::weights(nmax, &mut work[at..]);
 }
 
 // The tables and the sectoral numbers, then all points; the arrays are overwritten.

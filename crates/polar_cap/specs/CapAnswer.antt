@@ -1,8 +1,8 @@
 -- The answer of `polar_cap`: what the ranked places pick from the working list is what the definitions say. Assumes nothing.
 use mathlib.Core.Path.{_≡_, refl, sym, ap, ap₂, _∙_}
-use mathlib.Core.List.{List, [], _∷_, map, flatten, map-map}
+use mathlib.Core.List.{List, map, flatten, map-map}
 use Prim.Native.Nat.{ℕ, zero, suc, _+_, _-_, _*_, _≤_, _<_}
-use native.Mathlib.Nat.{not-suc-le-zero, le-of-suc-le-suc, zero-add, mul-le-mul-right}
+use native.Mathlib.Nat.{zero-add, mul-le-mul-right}
 use native.Mathlib.Omega.{arith}
 use lib.ListN.{length, getD, take, drop, length-map, length-drop, length-append}
 use lib.Seq.{ext-getD, getD-take, getD-drop, length-take-le}
@@ -18,18 +18,13 @@ use Rattle.ranking.specs.Places.{keyBefore, upTo, rankedPlaces}
 use Rattle.caps.specs.Caps.{degrees}
 use Rattle.polar_cap.specs.PolarCap.{inColumn, functionsBelow, functions, coefficient, coefficients, orderOf, concentrationOf, betterThan}
 use Rattle.polar_cap.specs.PolarCap.{ranked, capOrders, capConcentrations, capVectors, vectorsSize, capWork}
-use Rattle.polar_cap.specs.Rankings.{every-from, every-at, ranking-map, map-same, joined, joined-append, joined-ranking}
-use Rattle.polar_cap.specs.CapPlaces.{functionsBefore, numbersBefore, concentrationsAt, vectorsAt, numbers-all, order-within, divided}
+use Rattle.ranking.specs.Rankings.{length-places, every-place, every-from, every-at, ranking-map, map-at, map-same, joined, joined-append, joined-ranking}
+use Rattle.cap_functions.specs.CapPlaces.{functionsBefore, numbersBefore, concentrationsAt, vectorsAt, numbers-all, order-within, divided}
 use Rattle.polar_cap.specs.CapStorage.{Stored}
-use Rattle.polar_cap.specs.CapRanked.{functionAt, orderAt, startOf, startAt, runAt, pickedOrder, pickedNumber, function-at, length-functions, found}
-use Rattle.polar_cap.specs.CapRanked.{length-places, every-place, RunsIn}
+use Rattle.cap_functions.specs.CapRanked.{functionAt, orderAt, startOf, startAt, runAt, pickedOrder, pickedNumber, function-at, length-functions, found}
+use Rattle.cap_functions.specs.CapRanked.{RunsIn}
 
 -- ---- general
-map-at : {A B : Type 0} (f : A → B) (l : List A) (i : ℕ) (y : B) (z : A) → i < length l → getD (map f l) i y ≡ f (getD l i z)
-map-at f [] i y z h = absurd (not-suc-le-zero h)
-map-at f (x ∷ l) zero y z h = refl
-map-at f (x ∷ l) (suc i) y z h = map-at f l i y z (le-of-suc-le-suc h)
-
 tabulate-same : {A : Type 0} (z : A) (f g : ℕ → A) (n : ℕ) → ((i : ℕ) → i < n → f i ≡ g i) → tabulate f 0 n ≡ tabulate g 0 n
 tabulate-same z f g n e =
     let a = length-tabulate f 0 n in

@@ -14,7 +14,7 @@ use Rattle.refusal.specs.declared.Refusal.the-variants.{Size, Length, Space}
 use Rattle.storage.specs.Checks.{past, same}
 use Rattle.storage.specs.Triangle.{rowStart, tableSize, row-start-monotone}
 use Rattle.polar_cap.specs.PolarCap.{vectorsSize, capWork, capCheck}
-use Rattle.polar_cap.specs.CapPlaces.{CapRoom}
+use Rattle.cap_functions.specs.CapPlaces.{CapRoom}
 
 -- what passed checks tell: a record, whose fields `omega` finds
 pub record CapAccepted (L weights lats work orders concentrations vectors : ℕ) : Type 0 where

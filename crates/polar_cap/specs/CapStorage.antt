@@ -13,14 +13,14 @@ use Rattle.storage.specs.Fill.{fill}
 use Rattle.storage.specs.Filled.{Filled, filled, filled-in, filled-before, filled-after}
 use Rattle.storage.specs.Tabulate.{tabulate}
 use Rattle.storage.specs.Triangle.{tableSize, along}
-use Rattle.legendre.specs.Recursion.{aCell, bCell}
-use Rattle.legendre.specs.Tables.{withTables}
+use Rattle.recursion.specs.Recursion.{aCell, bCell}
+use Rattle.recursion.specs.Tables.{withTables}
 use Rattle.matrix.specs.Matrix.{cell-within}
 use Rattle.matrix.specs.Layout.{Kept, filled-tabulate}
 use Rattle.caps.specs.Caps.{degrees}
 use Rattle.caps.specs.Columns.{TablesIn}
 use Rattle.polar_cap.specs.PolarCap.{coefficient, concentrationIn, vectorsSize, capWork, capOrders, capConcentrations, capVectors}
-use Rattle.polar_cap.specs.CapPlaces.{functionsBefore, numbersBefore, concentrationsAt, vectorsAt, before, Order, Divided}
+use Rattle.cap_functions.specs.CapPlaces.{functionsBefore, numbersBefore, concentrationsAt, vectorsAt, before, Order, Divided}
 
 -- l is d but for the indices lo .. hi - 1
 pub record Apart (lo hi : ℕ) (d l : List Float) : Type 0 where

@@ -1,7 +1,7 @@
 -- The Slepian functions of a polar cap, best concentrated first (Simons, Dahlen & Wieczorek 2006), and the checks of the call. Definitions only.
 use mathlib.Core.Bool.{Bool, not}
-use mathlib.Core.List.{List, [], _++_, map, flatten}
-use Prim.Native.Nat.{ℕ, zero, suc, _+_, _*_, _/_}
+use mathlib.Core.List.{List, map, flatten}
+use Prim.Native.Nat.{ℕ, _+_}
 use lib.Dec.{ltb, eqb}
 use lib.Ieee.{Float}
 use Rattle.refusal.specs.Numbers.{refuse}
@@ -16,18 +16,7 @@ use Rattle.storage.specs.Triangle.{tableSize}
 use Rattle.matrix.specs.Matrix.{cell}
 use Rattle.linalg.specs.Eigen.{eigenVectors}
 use Rattle.caps.specs.Caps.{degrees, concentration, grunbaum, rayleigh}
-
--- ---- the functions: (m, col) is the one of order m in column col of that order's vectors
-unfoldable pub inColumn : ℕ → ℕ → ℕ × ℕ
-inColumn m col = (m, col)
-
--- those of the orders below m, order after order, column after column
-unfoldable pub functionsBelow : ℕ → ℕ → List (ℕ × ℕ)
-functionsBelow L zero = []
-functionsBelow L (suc m) = functionsBelow L m ++ tabulate (inColumn m) 0 (degrees L m)
-
-unfoldable pub functions : ℕ → List (ℕ × ℕ)
-functions L = functionsBelow L (L + 1)
+unfoldable pub use Rattle.cap_functions.specs.Functions.{inColumn, functionsBelow, functions, vectorsSize, capWork}
 
 -- the vectors of order m are the columns of a matrix: the eigenvectors of Grünbaum's
 unfoldable pub vectorsOf : ℕ → Float → ℕ → List Float
@@ -69,14 +58,6 @@ module _ (L : ℕ) (x₀ : Float) (weights lats : List Float) where
   capVectors = flatten (map (coefficients L x₀) ranked)
 
 -- ---- the checks
--- how many numbers all vectors have; there are as many functions as entries in a table up to degree L
-unfoldable pub vectorsSize : ℕ → ℕ
-vectorsSize L = (L + 1) * (L + 2) * (2 * L + 3) / 6
-
--- how many numbers of the working list are used: 3T + 4k² + 5k with k = L + 1, and the three lengths of the answer
-unfoldable pub capWork : ℕ → ℕ
-capWork L = 3 * tableSize L + 4 * ((L + 1) * (L + 1)) + 5 * (L + 1) + tableSize L + tableSize L + vectorsSize L
-
 -- SIZE of the degree; LENGTH of the weights and the pairs of the latitudes; SPACE of the working list and the three outputs
 unfoldable pub capCheck : (L weights lats work orders concentrations vectors : ℕ) → Answer
 capCheck L weights lats work orders concentrations vectors =

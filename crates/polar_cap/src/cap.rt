@@ -9,23 +9,15 @@ ghost use Rattle.storage.specs.Fill.{fill};
 ghost use Rattle.storage.specs.Filled.{Filled};
 ghost use Rattle.storage.specs.Rectangle.{byRows};
 ghost use Rattle.storage.specs.Triangle.{idx, tableSize};
-ghost use Rattle.legendre.specs.Recursion.{pmm};
+ghost use Rattle.recursion.specs.Recursion.{pmm};
 ghost use Rattle.matrix.specs.Matrix.{cell};
 ghost use Rattle.matrix.specs.Layout.{flipped, Kept};
 ghost use Rattle.caps.specs.Caps.{degrees};
 ghost use Rattle.caps.specs.Columns.{TablesIn};
 ghost use Rattle.caps.specs.Nodes.{NodeRoom, rescaleOf};
 ghost use Rattle.polar_cap.specs.PolarCap.{vectorsOf, concentrationIn, vectorsSize, capWork};
-ghost use Rattle.polar_cap.specs.CapPlaces.{concentrationsAt, vectorsAt, functionsBefore, numbersBefore, Square, CapRoom};
+ghost use Rattle.cap_functions.specs.CapPlaces.{concentrationsAt, vectorsAt, functionsBefore, numbersBefore, CapRoom};
 ghost use Rattle.polar_cap.specs.CapStorage.{Apart, Stored};
-
-// The number of cells of a k by k matrix.
-pub fn square(k: usize) -> usize
-    requires { ⌜ k ≤ 181 ⌝ }
-    ensures { λ r. ⌜ Square k r ⌝ }
-{
-    k * k
-}
 
 // The vectors of order m: the eigenvectors of Grünbaum's matrix, which is made in g. `values` is overwritten, and so is the working list behind
 // index `at`.
@@ -46,7 +38,7 @@ fn vectors_of(
         ∗ ⌜ Kept k (now (values .entry)) (now (values .exit)) ⌝
         ∗ ⌜ Apart at (at + (k * k + 4 * k)) (now (work .entry)) (now (work .exit)) ⌝ }
 {
-    let size = square(k);
+    let size = cap_functions::square(k);
     caps::grunbaum::grunbaum(m, k, lmax, x0, g);
     linalg::eigen(k, &g[..size], &mut work[at..], values, vectors);
 }
@@ -97,18 +89,6 @@ fn concentrations_of(
     caps::quotients::quotients(k, at, work, vectors, column, out);
 }
 
-// The k numbers from index `first` of a list on, copied to index `to` of another and those behind it.
-pub fn copy_run(k: usize, first: usize, src: &[f64], to: usize, dst: &mut [f64])
-    requires { ⌜ first + k ≤ length (now src) ⌝ ∗ ⌜ to + k ≤ length (now dst) ⌝ }
-    ensures { λ _. ⌜ Filled to (from first (now (src .entry)) nan) k (now (dst .entry)) (now (dst .exit)) ⌝ }
-{
-    let mut i = 0;
-    while i < k {
-        dst[to + i] = src[first + i];
-        i = i + 1;
-    }
-}
-
 // The concentrations and the vectors of one order put behind those of the orders before it, each vector as a run.
 fn store(k: usize, f: usize, v: usize, concentrations: &[f64], vectors: &[f64], work: &mut [f64])
     requires { ⌜ k ≤ 181 ⌝ ∗ ⌜ k ≤ length (now concentrations) ⌝ ∗ ⌜ k * k ≤ length (now vectors) ⌝ ∗ ⌜ f + k ≤ v ⌝
@@ -116,7 +96,7 @@ fn store(k: usize, f: usize, v: usize, concentrations: &[f64], vectors: &[f64], 
     ensures { λ _. ⌜ Filled v (byRows (flipped (cell k (now (vectors .entry)))) k) (k * k)
         (fill f (from 0 (now (concentrations .entry)) nan) k (now (work .entry))) (now (work .exit)) ⌝ }
 {
-    copy_run(k, 0, concentrations, f, work);
+    cap_functions::copy_run(k, 0, concentrations, f, work);
     matrix::transpose(k, vectors, &mut work[v..]);
 }
 
@@ -231,7 +211,7 @@ pub fn all_orders(
         caps::nodes::next_rescales(count, latitudes, rescales);
         let k = count - m;
         f = f + k;
-        v = v + square(k);
+        v = v + cap_functions::square(k);
         start = start + m + 2;
         m = m + 1;
         sectoral = legendre::rows::next_sectoral(m, sectoral);

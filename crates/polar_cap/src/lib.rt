@@ -1,7 +1,6 @@
 // The Slepian functions of a polar cap, best concentrated first (Simons, Dahlen & Wieczorek 2006).
 pub mod cap;
 pub mod polar;
-pub mod ranked;
 
 use refusal::Answer;
 ghost use mathlib.Core.Path.{_≡_};

@@ -6,7 +6,7 @@ ghost use Prim.Native.Nat.{_+_, _≤_, _<_};
 ghost use lib.ListN.{length};
 ghost use Rattle.storage.specs.Triangle.{tableSize};
 ghost use Rattle.polar_cap.specs.PolarCap.{capCheck};
-ghost use Rattle.polar_cap.specs.CapPlaces.{Sized, CapRoom};
+ghost use Rattle.cap_functions.specs.CapPlaces.{Sized, CapRoom};
 ghost use Rattle.polar_cap.specs.CapChecks.{CapAccepted};
 ghost use Rattle.polar_cap.specs.CapStorage.{CapMade};
 
@@ -105,7 +105,7 @@ fn cap_in(
     let sizes = cap_sizes(lmax);
     let total = sizes.functions;
     let at = sizes.at;
-    legendre::recursion::tables(lmax, total, work);
+    recursion::tables(lmax, total, work);
     crate::cap::all_orders(
         lmax,
         total,
@@ -121,8 +121,8 @@ fn cap_in(
         concentrations,
         vectors,
     );
-    crate::ranked::number_functions(lmax, at + total, order, starts);
-    crate::ranked::write(
+    cap_functions::ranked::number_functions(lmax, at + total, order, starts);
+    cap_functions::ranked::write(
         lmax,
         total,
         at,

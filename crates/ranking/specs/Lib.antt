@@ -1,3 +1,4 @@
 pub mod Places
 pub mod Merging
 pub mod Runs
+pub mod Rankings

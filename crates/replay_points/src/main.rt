@@ -8,8 +8,8 @@ use coefficients::Model;
 use coefficients::TideSystem;
 use functional::Functional;
 use legendre::Latitude;
-use partials::local::Partials;
-use partials::local::Point;
+use local::Partials;
+use local::Point;
 use refusal::Answer;
 ghost use Prim.Native.Nat.{_<_};
 

@@ -19,11 +19,11 @@ use Rattle.storage.specs.Fill.{fill, length-fill, drop-fill}
 use Rattle.storage.specs.Filled.{Filled, filled, filled-in, filled-before}
 use Rattle.storage.specs.Rectangle.{byRows, by-rows-same, by-rows-at}
 use Rattle.storage.specs.Triangle.{tableSize, cells, along}
-use Rattle.legendre.specs.Recursion.{aCell, bCell, pCell}
+use Rattle.recursion.specs.Recursion.{aCell, bCell, pCell}
 use Rattle.rounding.specs.Margins.{LineFits, GridWithin}
 use Rattle.rounding.specs.Theorems.{grid-within}
 use Rattle.legendre.specs.Directions.{cosines, sines, legendreRow}
-use Rattle.legendre.specs.Tables.{withTables}
+use Rattle.recursion.specs.Tables.{withTables}
 use Rattle.synthesis.specs.Grid.{gridCell, SizesAtMostOne, workSize, gridCheck}
 use Rattle.synthesis.specs.Rows.{rowsValue, rows-same, rows-are}
 use Rattle.synthesis.specs.Checks.{accepted}

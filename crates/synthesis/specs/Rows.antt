@@ -11,13 +11,13 @@ use lib.Ieee.{Float, nan, binary64}
 use Rattle.number.specs.Float64.{_⊕_, _⊗_}
 use Rattle.storage.specs.Filled.{Filled, filled-in, filled-same}
 use Rattle.storage.specs.Triangle.{idx, tableSize, cells, along, idx-within}
-use Rattle.legendre.specs.Recursion.{aCell, bCell, pCell, p-same}
+use Rattle.recursion.specs.Recursion.{aCell, bCell, pCell, p-same}
 use Rattle.rounding.specs.Sums.{zero⁺, columnSum}
 use Rattle.rounding.specs.SumSteps.{running-same, column-same}
 use Rattle.rounding.specs.Margins.{gridSummand, gridOrder, gridValue}
 use Rattle.legendre.specs.Directions.{rowSine, rowCosine, cosines, sines, legendreRow}
 use Rattle.synthesis.specs.Grid.{gridCell}
-use Rattle.synthesis.specs.Longitudes.{orderTerm, pointAt}
+use Rattle.fourier_synthesis.specs.Longitudes.{orderTerm, pointAt}
 
 -- ---- the values of a row
 -- the lists that a row is worked out in, by their lengths, have room for the degrees and orders up to nmax

@@ -1,6 +1,4 @@
 // Values of a field on a grid of latitudes and longitudes.
-pub mod longitudes;
-pub mod orders;
 pub mod rows;
 pub mod workspace;
 

@@ -7,7 +7,7 @@ ghost use lib.Ieee.{nan};
 ghost use Rattle.storage.specs.Elements.{from};
 ghost use Rattle.storage.specs.Filled.{Filled};
 ghost use Rattle.storage.specs.Rectangle.{byRows};
-ghost use Rattle.legendre.specs.Recursion.{pmm};
+ghost use Rattle.recursion.specs.Recursion.{pmm};
 ghost use Rattle.synthesis.specs.Rows.{RowRoom, rowValue, rowsValue};
 
 // One row, from index `at` of out on.
@@ -40,7 +40,7 @@ fn grid_row(
         (now (c .entry)) (now (s .entry)) (now (trig .entry)) nmax)
         longitudes (now (out .entry)) (now (out .exit)) ⌝ }
 {
-    crate::orders::order_sums(
+    lumped_coefficients::order_sums(
         nmax,
         latitude,
         a,
@@ -56,7 +56,7 @@ fn grid_row(
         x,
         y,
     );
-    crate::longitudes::points(nmax, longitudes, at, x, y, trig, out);
+    fourier_synthesis::points(nmax, longitudes, at, x, y, trig, out);
 }
 
 // All rows.

@@ -43,7 +43,7 @@ fn grid_in(
 {
     let nmax = head.nmax;
     let total = c.len();
-    legendre::recursion::tables(nmax, total, work);
+    recursion::tables(nmax, total, work);
     functional.factors(love, nmax, head.gm, head.radius, r, factors);
     legendre::rows::sectorals(nmax, sectorals);
     let a = &work[..];

@@ -1,7 +1,7 @@
 -- `compute_with_derivative` meets its contract: past the checks P is filled, and its derivative from it. Assumes nothing.
 use Rattle.storage.specs.Answers.{size-is}
 use Rattle.storage.specs.Checks.{outputs-passed}
-use Rattle.legendre.specs.Derivative.{derived}
+use Rattle.derivative.specs.Derivative.{derived}
 use native.Mathlib.Omega.{arith}
 use mathlib.Core.Path.{refl, sym, _∙_}
 use borrow.Author.Needs.{needs}

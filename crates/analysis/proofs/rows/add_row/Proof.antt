@@ -1,11 +1,10 @@
 -- `rows::add_row` meets its contract: the sums over the longitudes, then the degrees by them. Assumes nothing.
 use Rattle.analysis.specs.Rows.{added-by}
-use Rattle.analysis.specs.Longitudes.{cosinesFrom, sinesFrom, firstOf, secondOf, first-is, second-is}
-use Rattle.legendre.specs.Recursion.{pCell}
+use Rattle.fourier_analysis.specs.Longitudes.{cosinesFrom, sinesFrom, firstOf, secondOf, first-is, second-is}
+use Rattle.recursion.specs.Recursion.{pCell}
 use Rattle.storage.specs.Elements.{from}
 use lib.Ieee.{nan}
 use Rattle.storage.specs.Filled.{filled-self}
-use borrow.Author.Needs.{needs}
 use native.Mathlib.Omega.{arith}
 use Rattle.analysis.proofs.rows.add_row.Statement.{statement}
 use Rattle.analysis.proofs.rows.add_row.Tie as tie
@@ -71,8 +70,30 @@ returns c =
           (second-is (a .values .now) (a .trig .now) (a .at) (a .longitudes) x (omega (arith, k .of-sums))) adds,
     )
 
+same-length : tie.Need-same-length
+same-length c =
+    let c1 = c .before .before .before .before .before .before .before .before .before .before .before .before in
+    c1 .before .before .before .before .before .rescales .kept .1 .1 .0
+
+same-length-2 : tie.Need-same-length-2
+same-length-2 c = c .before .before .before .before .before .before .before .before .add-degrees .kept .1 .1 .1 .1 .1 .1 .1 .1 .1 .0
+
+same-length-3 : tie.Need-same-length-3
+same-length-3 c = c .before .before .before .before .before .before .before .before .add-degrees .kept .1 .1 .1 .1 .1 .1 .1 .1 .1 .1 .0
+
+same-length-4 : tie.Need-same-length-4
+same-length-4 c =
+    let c1 = c .before .before .before .before .before .before .before .before .before .before .before .before in
+    c1 .before .before .before .before .before .before .before .before .before .order-sums .kept .1 .1 .1 .1 .1 .0
+
+same-length-5 : tie.Need-same-length-5
+same-length-5 c = c .before .before .before .before .before .before .before .before .add-degrees .kept .1 .1 .1 .1 .1 .1 .1 .1 .1 .1 .1 .0
+
+same-length-6 : tie.Need-same-length-6
+same-length-6 c = c .before .before .before .before .before .before .before .before .add-degrees .kept .1 .1 .1 .1 .1 .1 .1 .1 .1 .1 .1 .1 .0
+
 pub add-row-spec : {M : Type 1} → statement M
 add-row-spec =
     tie.close
-    (tie.spec order-sums-requires rescales-requires add-degrees-requires (λ c. search needs) (λ c. search needs) (λ c. search needs) (λ c. search needs)
-    (λ c. search needs) (λ c. search needs) returns)
+    (tie.spec order-sums-requires rescales-requires add-degrees-requires same-length same-length-2 same-length-3 same-length-4 same-length-5 same-length-6
+    returns)

@@ -1,8 +1,8 @@
 -- `rows::add_rows` meets its contract: the rows above row i are added. Assumes nothing.
 use Rattle.analysis.specs.Analysis.{cosineSum, sineSum, rowWeight}
-use Rattle.analysis.specs.Longitudes.{cosinesFrom, sinesFrom, cosines-are, sines-are}
-use Rattle.analysis.specs.Rows.{legendreBy, SumsBelow, sums-none, sums-more, sums-to, room-kept, row-weight-is, legendre-at}
-use Rattle.legendre.specs.Recursion.{pCell}
+use Rattle.fourier_analysis.specs.Longitudes.{cosinesFrom, sinesFrom}
+use Rattle.analysis.specs.Rows.{legendreBy, SumsBelow, sums-none, sums-more, sums-to, room-kept, row-weight-is, legendre-at, cosines-are, sines-are}
+use Rattle.recursion.specs.Recursion.{pCell}
 use Rattle.storage.specs.Elements.{from}
 use lib.Ieee.{nan}
 use native.Mathlib.Nat.{mul-le-mul-right}

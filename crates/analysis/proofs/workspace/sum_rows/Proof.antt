@@ -1,7 +1,7 @@
 -- `workspace::sum_rows` meets its contract: the rows by the tables that are filled before them. Assumes nothing.
 use Rattle.analysis.specs.Checks.{points-are}
 use Rattle.analysis.specs.Promise.{summed}
-use Rattle.legendre.specs.Tables.{second-table}
+use Rattle.recursion.specs.Tables.{second-table}
 use Rattle.storage.specs.Answers.{size-is}
 use Rattle.storage.specs.Triangle.{table-size-most}
 use Rattle.storage.specs.Filled.{filled-self, filled-to}
@@ -148,9 +148,42 @@ returns c =
     summed (a .values .now) (a .weights .now) (a .latitudes .now) (a .trig .now) N (take room (drop total w)) (tables .ensures) (k .room-work)
     (λ i h. second-table N total room w z i (omega (arith, h, z, k .room-work, long))) zero-c zero-s rc rs
 
+same-length-2 : tie.Need-same-length-2
+same-length-2 c =
+    let c1 = c .before .before .before .before .before .before .before .before .before .before .before .before in
+    c1 .add-rows .kept .1 .1 .1 .1 .1 .1 .1 .1 .1 .0
+
+same-length-3 : tie.Need-same-length-3
+same-length-3 c =
+    let c1 = c .before .before .before .before .before .before .before .before .before .before .before .before in
+    c1 .add-rows .kept .1 .1 .1 .1 .1 .1 .1 .1 .1 .1 .0
+
+same-length-4 : tie.Need-same-length-4
+same-length-4 c =
+    let c1 = c .before .before .before .before .before .before .before .before .before .before .before .before in
+    c1 .add-rows .kept .1 .1 .1 .1 .1 .1 .1 .1 .1 .1 .1 .0
+
+same-length-5 : tie.Need-same-length-5
+same-length-5 c =
+    let c1 = c .before .before .before .before .before .before .before .before .before .before .before .before in
+    c1 .add-rows .kept .1 .1 .1 .1 .1 .1 .1 .1 .1 .1 .1 .1 .0
+
+same-length-7 : tie.Need-same-length-7
+same-length-7 c =
+    let c1 = c .before .before .before .before .before .before .before .before .before .before .before .before in
+    let c2 = c1 .before .before .before .before .before .before .before .before .before .before .before .before in
+    c1 .add-rows .kept .1 .1 .1 .1 .1 .1 .1 .1 .1 .1 .1 .1 .1 .0
+    ∙ c2 .before .before .before .before .clear .kept .1 .0
+
+same-length-8 : tie.Need-same-length-8
+same-length-8 c =
+    let c1 = c .before .before .before .before .before .before .before .before .before .before .before .before in
+    c1 .add-rows .kept .1 .1 .1 .1 .1 .1 .1 .1 .1 .1 .1 .1 .1 .1 .0
+    ∙ c1 .before .before .before .before .before .before .before .before .before .before .before .before .clear2 .kept .1 .0
+
 pub sum-rows-spec : {M : Type 1} → statement M
 sum-rows-spec =
     tie.close
     (tie.spec (λ c κs. search needs) add-longitudes add-longitudes-2 tables-requires sectorals-requires clear-requires clear-requires-2 mul-b sub-b
-    part-b-start (λ c. search needs) add-rows-requires same-length (λ c. search needs) (λ c. search needs) (λ c. search needs) (λ c. search needs)
-    same-length-6 (λ c. search needs) (λ c. search needs) returns)
+    part-b-start (λ c. search needs) add-rows-requires same-length same-length-2 same-length-3 same-length-4 same-length-5 same-length-6 same-length-7
+    same-length-8 returns)

@@ -3,7 +3,7 @@ use Rattle.caps.specs.Columns.{columnCell, before, column-first, before-
 use Rattle.storage.specs.Filled.{Filled, filled-none, filled-more, filled-to}
 use Rattle.storage.specs.Elements.{from}
 use Rattle.storage.specs.Triangle.{idx}
-use Rattle.legendre.specs.Recursion.{q}
+use Rattle.recursion.specs.Recursion.{q}
 use Rattle.number.specs.Float64.{_⊗_}
 use lib.Ieee.{Float, nan}
 use native.Mathlib.Omega.{arith}

@@ -1,5 +1,5 @@
 -- `rows::all_rows` meets its contract: the rows of P below n are written, and the last two rows of q are at hand. Assumes nothing.
-use Rattle.legendre.specs.Recursion.{sectoralRatio}
+use Rattle.recursion.specs.Recursion.{sectoralRatio}
 use Rattle.legendre.specs.Rows.{RowsBelow, rows-below-none, rows-below-more}
 use Rattle.storage.specs.Triangle.{rowStart, RowWithin, row-within}
 use Rattle.storage.specs.Filled.{filled-to}

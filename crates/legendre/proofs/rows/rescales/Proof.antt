@@ -7,7 +7,7 @@ use Rattle.legendre.proofs.rows.rescales.Tie as tie
 use Rattle.storage.specs.Filled.{Filled, filled-none, filled-more, filled-to}
 use Rattle.number.specs.Float64.{_⊗_}
 use lib.Ieee.{Float}
-use Rattle.legendre.specs.Recursion.{rescale, rescale-zero, rescale-more}
+use Rattle.recursion.specs.Recursion.{rescale, rescale-zero, rescale-more}
 
 abbrev Inv-loop : tie.InvT-loop
 Inv-loop nmax u r₀ count x₀ m₀ r x m = (m ≤ count) × (x ≡ rescale u m) × Filled 0 (rescale u) m r₀ r

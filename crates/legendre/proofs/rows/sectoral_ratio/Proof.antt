@@ -4,7 +4,7 @@ use borrow.Author.Needs.{needs}
 use Rattle.legendre.proofs.rows.sectoral_ratio.Statement.{statement}
 use Rattle.legendre.proofs.rows.sectoral_ratio.Tie as tie
 use borrow.Author.Tests.{eq-eqb, ne-eqb}
-use Rattle.legendre.specs.Recursion.{sectoralRatio}
+use Rattle.recursion.specs.Recursion.{sectoralRatio}
 use Rattle.number.specs.Whole.{whole}
 
 int-to-float-result : tie.Need-int-to-float-result

@@ -8,7 +8,7 @@ use Rattle.storage.specs.Filled.{Filled, filled-none, filled-more, filled-to}
 use Rattle.number.specs.Float64.{_⊗_}
 use Rattle.number.specs.Root.{rootOf}
 use lib.Ieee.{Float}
-use Rattle.legendre.specs.Recursion.{sectoralRatio, pmm, pmm-zero, pmm-more}
+use Rattle.recursion.specs.Recursion.{sectoralRatio, pmm, pmm-zero, pmm-more}
 
 abbrev Inv-loop : tie.InvT-loop
 Inv-loop nmax d₀ count x₀ m₀ d x m = (m ≤ count) × (x ≡ pmm m) × Filled 0 pmm m d₀ d

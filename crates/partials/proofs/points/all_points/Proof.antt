@@ -1,7 +1,7 @@
 -- `points::all_points` meets its contract: the points before point i are written. Assumes nothing.
 use Rattle.partials.specs.Promise.{along-row}
-use Rattle.partials.specs.Sums.{room-kept}
-use Rattle.partials.specs.Point.{alongCell}
+use Rattle.point_sums.specs.Sums.{room-kept}
+use Rattle.local.specs.Point.{alongCell}
 use Rattle.storage.specs.Rectangle.{byRows, by-rows-more}
 use Rattle.storage.specs.Filled.{Filled, filled-none, filled-to}
 use native.Mathlib.Nat.{mul-le-mul-right}

@@ -1,5 +1,5 @@
 -- `points::point` meets its contract: the powers of u, the sums over the degrees, and the last multiplications. Assumes nothing.
-use Rattle.partials.specs.Sums.{room-kept, point-is}
+use Rattle.point_sums.specs.Sums.{room-kept, point-is}
 use Rattle.storage.specs.Filled.{filled-self}
 use native.Mathlib.Omega.{arith}
 use mathlib.Core.Path.{refl}

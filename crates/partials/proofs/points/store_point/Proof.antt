@@ -1,5 +1,5 @@
 -- `points::store_point` meets its contract: one store after the other. Assumes nothing.
-use Rattle.partials.specs.Point.{component}
+use Rattle.local.specs.Point.{component}
 use Rattle.storage.specs.Filled.{filled-one, filled-more}
 use lib.ListN.{length-set}
 use native.Mathlib.Omega.{arith}

@@ -9,12 +9,12 @@ use Rattle.number.specs.Float64.{_⊗_}
 use Rattle.number.specs.Root.{rootOf}
 use Rattle.storage.specs.Filled.{Filled, filled-self}
 use Rattle.storage.specs.Triangle.{idx, tableSize, row-start-zero, row-start-more, row-within}
-use Rattle.legendre.specs.Recursion.{sectoralRatio, pmm, pmm-zero, pmm-more}
+use Rattle.recursion.specs.Recursion.{sectoralRatio, pmm, pmm-zero, pmm-more}
 use Rattle.matrix.specs.Layout.{Kept, kept-none, kept-then}
 use Rattle.caps.specs.Caps.{degrees}
 use Rattle.caps.specs.Nodes.{rescaleOf, rescales-first, rescales-next}
 use Rattle.polar_cap.specs.PolarCap.{vectorsSize, capWork}
-use Rattle.polar_cap.specs.CapPlaces.{concentrationsAt, vectorsAt, functionsBefore, numbersBefore, before-zero, order-within, divided, room-kept}
+use Rattle.cap_functions.specs.CapPlaces.{concentrationsAt, vectorsAt, functionsBefore, numbersBefore, before-zero, order-within, divided, room-kept}
 use Rattle.polar_cap.specs.CapStorage.{Stored, stored-none}
 use Rattle.polar_cap.proofs.cap.all_orders.Statement.{statement}
 use Rattle.polar_cap.proofs.cap.all_orders.Tie as tie

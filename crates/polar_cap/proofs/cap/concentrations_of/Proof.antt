@@ -1,8 +1,8 @@
 -- `cap::concentrations_of` meets its contract. Assumes nothing.
 use native.Mathlib.Omega.{arith}
+use mathlib.Core.Path.{_∙_}
 use Rattle.polar_cap.specs.CapOrder.{quotients-made}
 use Rattle.polar_cap.specs.CapStorage.{apart-filled}
-use borrow.Author.Needs.{needs}
 use Rattle.polar_cap.proofs.cap.concentrations_of.Statement.{statement}
 use Rattle.polar_cap.proofs.cap.concentrations_of.Tie as tie
 
@@ -58,7 +58,21 @@ returns c =
       apart-filled (c1 .concentration .ensures .0),
     )
 
+same-length : tie.Need-same-length
+same-length c =
+    let c1 = c .before .before .before .before .before .before .before .before .before .before .before .before in
+    c .before .before .before .before .quotients .kept .1 .1 .1 .1 .0
+    ∙ c1 .concentration .kept .1 .1 .1 .1 .1 .1 .1 .1 .1 .1 .1 .0
+
+same-length-2 : tie.Need-same-length-2
+same-length-2 c =
+    let c1 = c .before .before .before .before .before .before .before .before .before .before .before .before in
+    c1 .concentration .kept .1 .1 .1 .1 .1 .1 .1 .1 .1 .1 .1 .1 .0
+
+same-length-3 : tie.Need-same-length-3
+same-length-3 c = c .before .before .before .before .quotients .kept .1 .1 .1 .1 .1 .0
+
 pub concentrations-of-spec : {M : Type 1} → statement M
 concentrations-of-spec =
     tie.close
-    (tie.spec concentration-requires quotients-requires (λ c. search needs) (λ c. search needs) (λ c. search needs) returns)
+    (tie.spec concentration-requires quotients-requires same-length same-length-2 same-length-3 returns)

@@ -10,7 +10,7 @@ use Rattle.storage.specs.Triangle.{tableSize}
 use Rattle.matrix.specs.Layout.{kept-from, filled-kept}
 use Rattle.caps.specs.Caps.{degrees}
 use Rattle.polar_cap.specs.PolarCap.{vectorsSize, capWork}
-use Rattle.polar_cap.specs.CapPlaces.{order-within, divided, order-room}
+use Rattle.cap_functions.specs.CapPlaces.{order-within, divided, order-room}
 use Rattle.polar_cap.specs.CapOrder.{coefficient-made}
 use Rattle.polar_cap.specs.CapStorage.{apart-filled, apart-then, apart-kept, stored-apart, stored-more}
 use borrow.Author.Needs.{needs}
@@ -134,8 +134,44 @@ returns c =
       ),
     )
 
+same-length : tie.Need-same-length
+same-length c =
+    let c1 = c .before .before .before .before .before .before .before .before .before .before .before .before in
+    let c2 = c1 .before .before .before .before .before .before .before .before .before .before .before .before in
+    c2 .before .vectors-of .kept .1 .1 .1 .1 .1 .0
+
+same-length-2 : tie.Need-same-length-2
+same-length-2 c =
+    let c1 = c .before .before .before .before .before .before .before .before .before .before .before .before in
+    c1 .concentrations-of .kept .1 .1 .1 .1 .1 .1 .1 .1 .1 .1 .1 .1 .0
+
+same-length-3 : tie.Need-same-length-3
+same-length-3 c =
+    let c1 = c .before .before .before .before .before .before .before .before .before .before .before .before in
+    let c2 = c1 .before .before .before .before .before .before .before .before .before .before .before .before in
+    c .before .before .store .kept .1 .1 .1 .1 .1 .0
+    ∙ c1 .concentrations-of .kept .1 .1 .1 .1 .1 .1 .1 .1 .1 .1 .1 .1 .1 .0
+    ∙ c2 .before .vectors-of .kept .1 .1 .1 .1 .1 .1 .0
+
+same-length-4 : tie.Need-same-length-4
+same-length-4 c =
+    let c1 = c .before .before .before .before .before .before .before .before .before .before .before .before in
+    let c2 = c1 .before .before .before .before .before .before .before .before .before .before .before .before in
+    c2 .before .vectors-of .kept .1 .1 .1 .1 .1 .1 .1 .0
+
+same-length-5 : tie.Need-same-length-5
+same-length-5 c =
+    let c1 = c .before .before .before .before .before .before .before .before .before .before .before .before in
+    c1 .concentrations-of .kept .1 .1 .1 .1 .1 .1 .1 .1 .1 .1 .1 .1 .1 .1 .0
+
+same-length-6 : tie.Need-same-length-6
+same-length-6 c =
+    let c1 = c .before .before .before .before .before .before .before .before .before .before .before .before in
+    let c2 = c1 .before .before .before .before .before .before .before .before .before .before .before .before in
+    c2 .before .vectors-of .kept .1 .1 .1 .1 .1 .1 .1 .1 .0
+
 pub order-spec : {M : Type 1} → statement M
 order-spec =
     tie.close
-    (tie.spec (λ c. search needs) (λ c. search needs) (λ c. search needs) vectors-of-requires concentrations-of-requires store-requires (λ c. search needs)
-    (λ c. search needs) (λ c. search needs) (λ c. search needs) (λ c. search needs) (λ c. search needs) returns)
+    (tie.spec (λ c. search needs) (λ c. search needs) (λ c. search needs) vectors-of-requires concentrations-of-requires store-requires same-length
+    same-length-2 same-length-3 same-length-4 same-length-5 same-length-6 returns)

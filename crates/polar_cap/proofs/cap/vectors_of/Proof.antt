@@ -40,8 +40,19 @@ returns c =
       ),
     )
 
+same-length : tie.Need-same-length
+same-length c =
+    let c1 = c .before .before .before .before .before .before .before .before .before .before .before .before in
+    c1 .before .grunbaum .kept .1 .1 .1 .1 .0
+
+same-length-3 : tie.Need-same-length-3
+same-length-3 c = c .before .before .before .before .before .before .eigen .kept .1 .1 .1 .0
+
+same-length-4 : tie.Need-same-length-4
+same-length-4 c = c .before .before .before .before .before .before .eigen .kept .1 .1 .1 .1 .0
+
 pub vectors-of-spec : {M : Type 1} → statement M
 vectors-of-spec =
     tie.close
     (tie.spec (λ c κs. search needs) (λ c κs. search needs) (λ c. search needs) slice-aggregate-eigen (λ c. search needs) (λ c. search needs)
-    (λ c. search needs) (λ c. search needs) eigen-requires (λ c. search needs) (λ c. search needs) (λ c. search needs) (λ c. search needs) returns)
+    (λ c. search needs) (λ c. search needs) eigen-requires same-length (λ c. search needs) same-length-3 same-length-4 returns)

@@ -5,10 +5,9 @@ use Prim.Native.Nat.{_≤_}
 use lib.ListN.{length}
 use Rattle.matrix.specs.Layout.{kept-then}
 use Rattle.polar_cap.specs.PolarCap.{capWork}
-use Rattle.polar_cap.specs.CapPlaces.{order-within, divided, room-kept}
+use Rattle.cap_functions.specs.CapPlaces.{order-within, divided, room-kept}
 use Rattle.polar_cap.specs.CapStorage.{tables-in, kept-filled}
 use Rattle.polar_cap.specs.CapAnswer.{runs-in, numbers-are, orders-picked, concentrations-picked, vectors-picked}
-use borrow.Author.Needs.{needs}
 use Rattle.polar_cap.proofs.polar.cap_in.Statement.{statement}
 use Rattle.polar_cap.proofs.polar.cap_in.Tie as tie
 
@@ -130,7 +129,8 @@ same-length-8 c =
     let d = divided (a .lmax) (r .top) in
     let t = tables-in (a .lmax) (c4 .before .before .before .before .cap-sizes .result .functions) (a .work .now) (s .of-functions)
     (c4 .before .before .tables .ensures) (r .of-work) d in
-    c3 .before .before .before .before .all-orders .ensures .1 .0 .long ∙ t .1 .long
+    c3 .before .before .before .before .all-orders .ensures .1 .0 .long
+    ∙ t .1 .long
 
 returns : tie.Need-returns
 returns c =
@@ -171,9 +171,62 @@ returns c =
       kept = kept-then (t .1) (done .1 .0);
     }
 
+same-length-2 : tie.Need-same-length-2
+same-length-2 c =
+    let c1 = c .before .before .before .before .before .before .before .before .before .before .before .before in
+    let c2 = c1 .before .before .before .before .before .before .before .before .before .before .before .before in
+    let c3 = c2 .before .before .before .before .before .before .before .before .before .before .before .before in
+    c3 .before .before .before .before .all-orders .kept .1 .1 .1 .1 .1 .1 .1 .0
+
+same-length-3 : tie.Need-same-length-3
+same-length-3 c =
+    let c1 = c .before .before .before .before .before .before .before .before .before .before .before .before in
+    let c2 = c1 .before .before .before .before .before .before .before .before .before .before .before .before in
+    let c3 = c2 .before .before .before .before .before .before .before .before .before .before .before .before in
+    c3 .before .before .before .before .all-orders .kept .1 .1 .1 .1 .1 .1 .1 .1 .0
+
+same-length-4 : tie.Need-same-length-4
+same-length-4 c =
+    let c1 = c .before .before .before .before .before .before .before .before .before .before .before .before in
+    c1 .before .before .before .before .before .before .before .before .before .before .before .number-functions .kept .1 .1 .0
+
+same-length-5 : tie.Need-same-length-5
+same-length-5 c =
+    let c1 = c .before .before .before .before .before .before .before .before .before .before .before .before in
+    c1 .before .before .before .before .before .before .before .before .before .before .before .number-functions .kept .1 .1 .1 .0
+
+same-length-6 : tie.Need-same-length-6
+same-length-6 c = c .before .before .before .before .before .before .before .before .before .before .write .kept .1 .1 .1 .1 .1 .1 .0
+
+same-length-7 : tie.Need-same-length-7
+same-length-7 c = c .before .before .before .before .before .before .before .before .before .before .write .kept .1 .1 .1 .1 .1 .1 .1 .0
+
+same-length-9 : tie.Need-same-length-9
+same-length-9 c =
+    let c1 = c .before .before .before .before .before .before .before .before .before .before .before .before in
+    let c2 = c1 .before .before .before .before .before .before .before .before .before .before .before .before in
+    let c3 = c2 .before .before .before .before .before .before .before .before .before .before .before .before in
+    c .before .before .before .before .before .before .before .before .before .before .write .kept .1 .1 .1 .1 .1 .1 .1 .1 .0
+    ∙ c3 .before .before .before .before .all-orders .kept .1 .1 .1 .1 .1 .1 .1 .1 .1 .1 .0
+
+same-length-10 : tie.Need-same-length-10
+same-length-10 c =
+    let c1 = c .before .before .before .before .before .before .before .before .before .before .before .before in
+    let c2 = c1 .before .before .before .before .before .before .before .before .before .before .before .before in
+    let c3 = c2 .before .before .before .before .before .before .before .before .before .before .before .before in
+    c .before .before .before .before .before .before .before .before .before .before .write .kept .1 .1 .1 .1 .1 .1 .1 .1 .1 .0
+    ∙ c3 .before .before .before .before .all-orders .kept .1 .1 .1 .1 .1 .1 .1 .1 .1 .1 .1 .0
+
+same-length-11 : tie.Need-same-length-11
+same-length-11 c =
+    let c1 = c .before .before .before .before .before .before .before .before .before .before .before .before in
+    let c2 = c1 .before .before .before .before .before .before .before .before .before .before .before .before in
+    let c3 = c2 .before .before .before .before .before .before .before .before .before .before .before .before in
+    c .before .before .before .before .before .before .before .before .before .before .write .kept .1 .1 .1 .1 .1 .1 .1 .1 .1 .1 .0
+    ∙ c3 .before .before .before .before .all-orders .kept .1 .1 .1 .1 .1 .1 .1 .1 .1 .1 .1 .1 .0
+
 pub cap-in-spec : {M : Type 1} → statement M
 cap-in-spec =
     tie.close
     (tie.spec cap-sizes-requires tables-requires all-orders-requires add-number-functions number-functions-requires write-requires same-length
-    (λ c. search needs) (λ c. search needs) (λ c. search needs) (λ c. search needs) (λ c. search needs) (λ c. search needs) same-length-8
-    (λ c. search needs) (λ c. search needs) (λ c. search needs) returns)
+    same-length-2 same-length-3 same-length-4 same-length-5 same-length-6 same-length-7 same-length-8 same-length-9 same-length-10 same-length-11 returns)

@@ -1,7 +1,7 @@
 -- `polar::cap_sizes` meets its contract: no product is too large. Assumes nothing.
 use native.Mathlib.Omega.{arith}
 use mathlib.Core.Path.{refl}
-use Rattle.polar_cap.specs.CapPlaces.{products, sized}
+use Rattle.cap_functions.specs.CapPlaces.{products, sized}
 use borrow.Author.Needs.{needs}
 use Rattle.polar_cap.proofs.polar.cap_sizes.Statement.{statement}
 use Rattle.polar_cap.proofs.polar.cap_sizes.Tie as tie

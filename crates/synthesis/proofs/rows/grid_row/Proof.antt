@@ -3,7 +3,6 @@ use Rattle.synthesis.specs.Rows.{row-values}
 use Rattle.storage.specs.Elements.{from}
 use lib.Ieee.{nan}
 use native.Mathlib.Omega.{arith}
-use borrow.Author.Needs.{needs}
 use Rattle.synthesis.proofs.rows.grid_row.Statement.{statement}
 use Rattle.synthesis.proofs.rows.grid_row.Tie as tie
 
@@ -66,8 +65,40 @@ returns c =
     row-values (from 0 (a .a .now) nan) (from 0 (a .b .now) nan) (from 0 (a .factors .now) nan) (a .latitude .t) (a .latitude .u)
     (a .c .now) (a .s .now) (a .trig .now) (a .nmax) (e .0) (e .1) (k .of-x) (k .of-y) (c .before .before .points .ensures)
 
+same-length : tie.Need-same-length
+same-length c =
+    let c1 = c .before .before .before .before .before .before .before .before .before .before .before .before in
+    c1 .before .before .before .before .before .before .order-sums .kept .1 .1 .1 .1 .1 .1 .1 .1 .0
+
+same-length-2 : tie.Need-same-length-2
+same-length-2 c =
+    let c1 = c .before .before .before .before .before .before .before .before .before .before .before .before in
+    c1 .before .before .before .before .before .before .order-sums .kept .1 .1 .1 .1 .1 .1 .1 .1 .1 .0
+
+same-length-3 : tie.Need-same-length-3
+same-length-3 c =
+    let c1 = c .before .before .before .before .before .before .before .before .before .before .before .before in
+    c1 .before .before .before .before .before .before .order-sums .kept .1 .1 .1 .1 .1 .1 .1 .1 .1 .1 .0
+
+same-length-4 : tie.Need-same-length-4
+same-length-4 c =
+    let c1 = c .before .before .before .before .before .before .before .before .before .before .before .before in
+    c1 .before .before .before .before .before .before .order-sums .kept .1 .1 .1 .1 .1 .1 .1 .1 .1 .1 .1 .0
+
+same-length-5 : tie.Need-same-length-5
+same-length-5 c =
+    let c1 = c .before .before .before .before .before .before .before .before .before .before .before .before in
+    c1 .before .before .before .before .before .before .order-sums .kept .1 .1 .1 .1 .1 .1 .1 .1 .1 .1 .1 .1 .0
+
+same-length-6 : tie.Need-same-length-6
+same-length-6 c =
+    let c1 = c .before .before .before .before .before .before .before .before .before .before .before .before in
+    c1 .before .before .before .before .before .before .order-sums .kept .1 .1 .1 .1 .1 .1 .1 .1 .1 .1 .1 .1 .1 .0
+
+same-length-7 : tie.Need-same-length-7
+same-length-7 c = c .before .before .points .kept .1 .1 .1 .1 .1 .1 .0
+
 pub grid-row-spec : {M : Type 1} → statement M
 grid-row-spec =
     tie.close
-    (tie.spec order-sums-requires points-requires (λ c. search needs) (λ c. search needs) (λ c. search needs) (λ c. search needs) (λ c. search needs)
-    (λ c. search needs) (λ c. search needs) returns)
+    (tie.spec order-sums-requires points-requires same-length same-length-2 same-length-3 same-length-4 same-length-5 same-length-6 same-length-7 returns)

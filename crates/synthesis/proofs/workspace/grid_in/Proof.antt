@@ -1,6 +1,6 @@
 -- `workspace::grid_in` meets its contract: the rows by the tables and factors that are filled before them. Assumes nothing.
 use Rattle.synthesis.specs.Promise.{made}
-use Rattle.legendre.specs.Tables.{second-table}
+use Rattle.recursion.specs.Tables.{second-table}
 use Rattle.functional.specs.Factor.{factorOf}
 use Rattle.storage.specs.Filled.{filled-self, filled-in}
 use native.Mathlib.Nat.{zero-add}
@@ -114,9 +114,55 @@ returns c =
     (λ i h. filled-in {j = i} nan (c2 .before .before .before .before .before .before .before .before .factors .ensures)
     (omega (arith, h)) (sym (zero-add i)) (omega (arith, h, q .1 .0))) (c1 .before .before .grid-rows .ensures)
 
+same-length : tie.Need-same-length
+same-length c =
+    let c1 = c .before .before .before .before .before .before .before .before .before .before .before .before in
+    let c2 = c1 .before .before .before .before .before .before .before .before .before .before .before .before in
+    c2 .before .before .before .before .before .before .before .before .factors .kept .1 .1 .1 .1 .1 .1 .0
+
+same-length-2 : tie.Need-same-length-2
+same-length-2 c =
+    let c1 = c .before .before .before .before .before .before .before .before .before .before .before .before in
+    let c2 = c1 .before .before .before .before .before .before .before .before .before .before .before .before in
+    c2 .before .before .before .before .sectorals .kept .1 .0
+
+same-length-3 : tie.Need-same-length-3
+same-length-3 c =
+    let c1 = c .before .before .before .before .before .before .before .before .before .before .before .before in
+    c1 .before .before .grid-rows .kept .1 .1 .1 .1 .1 .1 .1 .1 .1 .1 .1 .0
+
+same-length-4 : tie.Need-same-length-4
+same-length-4 c =
+    let c1 = c .before .before .before .before .before .before .before .before .before .before .before .before in
+    c1 .before .before .grid-rows .kept .1 .1 .1 .1 .1 .1 .1 .1 .1 .1 .1 .1 .0
+
+same-length-5 : tie.Need-same-length-5
+same-length-5 c =
+    let c1 = c .before .before .before .before .before .before .before .before .before .before .before .before in
+    c1 .before .before .grid-rows .kept .1 .1 .1 .1 .1 .1 .1 .1 .1 .1 .1 .1 .1 .0
+
+same-length-6 : tie.Need-same-length-6
+same-length-6 c =
+    let c1 = c .before .before .before .before .before .before .before .before .before .before .before .before in
+    c1 .before .before .grid-rows .kept .1 .1 .1 .1 .1 .1 .1 .1 .1 .1 .1 .1 .1 .1 .0
+
+same-length-7 : tie.Need-same-length-7
+same-length-7 c =
+    let c1 = c .before .before .before .before .before .before .before .before .before .before .before .before in
+    c1 .before .before .grid-rows .kept .1 .1 .1 .1 .1 .1 .1 .1 .1 .1 .1 .1 .1 .1 .1 .0
+
+same-length-8 : tie.Need-same-length-8
+same-length-8 c =
+    let c1 = c .before .before .before .before .before .before .before .before .before .before .before .before in
+    c1 .before .before .grid-rows .kept .1 .1 .1 .1 .1 .1 .1 .1 .1 .1 .1 .1 .1 .1 .1 .1 .0
+
+same-length-10 : tie.Need-same-length-10
+same-length-10 c =
+    let c1 = c .before .before .before .before .before .before .before .before .before .before .before .before in
+    c1 .before .before .grid-rows .kept .1 .1 .1 .1 .1 .1 .1 .1 .1 .1 .1 .1 .1 .1 .1 .1 .1 .0
+
 pub grid-in-spec : {M : Type 1} → statement M
 grid-in-spec =
     tie.close
-    (tie.spec tables-requires factors-requires sectorals-requires mul-b sub-b part-b-start (λ c. search needs) grid-rows-requires
-    (λ c. search needs) (λ c. search needs) (λ c. search needs) (λ c. search needs) (λ c. search needs) (λ c. search needs) (λ c. search needs)
-    (λ c. search needs) same-length-9 (λ c. search needs) returns)
+    (tie.spec tables-requires factors-requires sectorals-requires mul-b sub-b part-b-start (λ c. search needs) grid-rows-requires same-length same-length-2
+    same-length-3 same-length-4 same-length-5 same-length-6 same-length-7 same-length-8 same-length-9 same-length-10 returns)

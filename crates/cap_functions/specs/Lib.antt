@@ -1,0 +1,3 @@
+pub mod Functions
+pub mod CapPlaces
+pub mod CapRanked

@@ -1,0 +1,138 @@
+-- How long the lists of each call must be, in the order of its list parameters, and the sizes that it takes. A list `love` has what water heights
+-- need; other functionals read none. Assumes nothing.
+use mathlib.Core.Path.{_≡_, refl}
+use mathlib.Core.List.{List, [], _∷_}
+use Prim.Native.Nat.{ℕ, zero, suc, _+_, _*_, _≤_, min}
+use native.Mathlib.Omega.{arith}
+use lib.ListN.{take}
+use Rattle.refusal.specs.declared.Answer.{Answer}
+use Rattle.refusal.specs.declared.Answer.the-variants.{Done}
+use Rattle.refusal.specs.declared.Answer.the-variants.{Refused as Stopped}
+use Rattle.storage.specs.Checks.{_andThen_}
+use Rattle.storage.specs.Triangle.{tableSize}
+use Rattle.model_file.specs.declared.Reading.{Reading}
+use Rattle.model_file.specs.declared.Reading.the-variants.{Model, Refused}
+use Rattle.quadrature.specs.Gauss.{guessCount}
+use Rattle.synthesis.specs.Grid.{workSize}
+use Rattle.local.specs.Point.{workSize as pointWork}
+use Rattle.analysis.specs.Analysis.{pointsOf}
+use Rattle.polar_cap.specs.PolarCap.{vectorsSize, capWork}
+use Rattle.lengths.specs.Told.{sizeCheck}
+
+-- ---- the sizes, in the order in which the call checks them
+abbrev pub degreeSize : ℕ → Answer
+degreeSize N = sizeCheck 2700 N
+
+abbrev pub twoDegrees : ℕ → ℕ → Answer
+twoDegrees N K = sizeCheck 2700 K andThen sizeCheck 2700 N
+
+abbrev pub gridSizes : (N rows longitudes : ℕ) → Answer
+gridSizes N rows longitudes = sizeCheck 65535 rows andThen sizeCheck 65535 longitudes andThen sizeCheck 2700 N
+
+abbrev pub alongSizes : (N points : ℕ) → Answer
+alongSizes N points = sizeCheck 65535 points andThen sizeCheck 2700 N
+
+-- a file is refused by its head before its lists are looked at
+abbrev pub readSizes : Reading → Answer
+readSizes (Model h) = Done
+readSizes (Refused e) = Stopped e
+
+-- ---- models and tables
+-- so many tables up to degree N: `zeros`, `coefficient_c`, `coefficient_s`, `set`, `rescaled` and the calls of legendre
+unfoldable pub tablesLengths : ℕ → ℕ → List ℕ
+tablesLengths zero N = []
+tablesLengths (suc count) N = tableSize N ∷ tablesLengths count N
+
+-- love
+unfoldable pub factorLengths : ℕ → List ℕ
+factorLengths n = (n + 1) ∷ []
+
+-- c, s, and the two tables up to the cut
+unfoldable pub truncatedLengths : (N cut : ℕ) → List ℕ
+truncatedLengths N cut = tableSize N ∷ tableSize N ∷ tableSize (min cut N) ∷ tableSize (min cut N) ∷ []
+
+-- c, s, out
+unfoldable pub variancesLengths : ℕ → List ℕ
+variancesLengths N = tableSize N ∷ tableSize N ∷ (N + 1) ∷ []
+
+-- c, s, love, out
+unfoldable pub amplitudesLengths : ℕ → List ℕ
+amplitudesLengths N = tableSize N ∷ tableSize N ∷ (N + 1) ∷ (N + 1) ∷ []
+
+-- the bytes of a file, c, s, and the four words of the head
+unfoldable pub fileLengths : ℕ → List ℕ
+fileLengths N = (21 + 17 * tableSize N) ∷ tableSize N ∷ tableSize N ∷ 4 ∷ []
+
+abbrev pub readLengths : Reading → List ℕ
+readLengths (Model h) = fileLengths (h .nmax)
+readLengths (Refused e) = []
+
+-- c, s, and the bytes
+unfoldable pub writeLengths : ℕ → List ℕ
+writeLengths N = tableSize N ∷ tableSize N ∷ (21 + 17 * tableSize N) ∷ []
+
+-- guesses, x, w
+unfoldable pub gaussLengths : ℕ → List ℕ
+gaussLengths n = guessCount n ∷ n ∷ n ∷ []
+
+-- ---- fields
+-- c, s, love, latitudes, trig, work, out
+unfoldable pub gridLengths : (N rows longitudes : ℕ) → List ℕ
+gridLengths N rows longitudes =
+    tableSize N ∷ tableSize N ∷ (N + 1) ∷ (rows + rows) ∷ (longitudes * (N + N + 2)) ∷ workSize N ∷ (rows * longitudes) ∷ []
+
+-- c, s, the kernel's two tables, love
+unfoldable pub averageLengths : (N K : ℕ) → List ℕ
+averageLengths N K = tableSize N ∷ tableSize N ∷ tableSize K ∷ tableSize K ∷ (min N K + 1) ∷ []
+
+-- c, s, trig, work, out
+unfoldable pub partialsLengths : ℕ → List ℕ
+partialsLengths N = tableSize N ∷ tableSize N ∷ (N + N + 2) ∷ pointWork N ∷ 4 ∷ []
+
+-- c, s, radii, latitudes, trig, work, out
+unfoldable pub alongLengths : (N points : ℕ) → List ℕ
+alongLengths N points =
+    tableSize N ∷ tableSize N ∷ points ∷ (points + points) ∷ (points * (N + N + 2)) ∷ pointWork N ∷ (4 * points) ∷ []
+
+-- out of `acceleration_neu` and `gravity_neu`
+unfoldable pub threeLengths : List ℕ
+threeLengths = 3 ∷ []
+
+-- love, values, weights, latitudes, trig, work, c, s
+unfoldable pub analysisLengths : ℕ → List ℕ
+analysisLengths N =
+    (N + 1) ∷ pointsOf N ∷ (N + 1) ∷ (N + 1 + (N + 1)) ∷ (pointsOf N + pointsOf N) ∷ (3 * tableSize N) ∷ tableSize N ∷ tableSize N ∷ []
+
+-- ---- matrices and caps
+-- a, work, values, vectors
+unfoldable pub eigenLengths : ℕ → List ℕ
+eigenLengths n = (n * n) ∷ (n * n + 4 * n) ∷ n ∷ (n * n) ∷ []
+
+-- weights, latitudes, work, orders, concentrations, vectors
+unfoldable pub capLengths : ℕ → List ℕ
+capLengths L = (L + 1) ∷ (L + 1 + (L + 1)) ∷ capWork L ∷ tableSize L ∷ tableSize L ∷ vectorsSize L ∷ []
+
+-- ---- as the code has them
+-- the first of four tables
+pub tables-told : {size : ℕ} (N count : ℕ) → count ≤ 4 → size ≡ tableSize N → take count (size ∷ size ∷ size ∷ size ∷ []) ≡ tablesLengths count N
+unfolding tablesLengths
+tables-told N zero h e = refl
+tables-told N (suc zero) h e = cc
+tables-told N (suc (suc zero)) h e = cc
+tables-told N (suc (suc (suc zero))) h e = cc
+tables-told N (suc (suc (suc (suc zero)))) h e = cc
+tables-told N (suc (suc (suc (suc (suc k))))) h e = absurd (omega arith)
+
+-- the lists of a file
+pub file-told : {size : ℕ} (N : ℕ) → size ≡ tableSize N → (21 + 17 * size) ∷ size ∷ size ∷ 4 ∷ [] ≡ fileLengths N
+unfolding fileLengths
+file-told N e = cc
+
+pub gauss-told : (n : ℕ) {half : ℕ} → half ≡ guessCount n → half ∷ n ∷ n ∷ [] ≡ gaussLengths n
+unfolding gaussLengths
+gauss-told n e = cc
+
+pub grid-told : (N rows longitudes : ℕ) {size trig work out : ℕ} → size ≡ tableSize N → trig ≡ longitudes * (N + N + 2) → work ≡ workSize N
+    → out ≡ rows * longitudes → size ∷ size ∷ (N + 1) ∷ (rows + rows) ∷ trig ∷ work ∷ out ∷ [] ≡ gridLengths N rows longitudes
+unfolding gridLengths
+grid-told N rows longitudes e t w o = cc

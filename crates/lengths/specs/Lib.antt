@@ -1,0 +1,4 @@
+pub mod Told
+pub mod Lengths
+pub mod Enough
+pub mod Limits

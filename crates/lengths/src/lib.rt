@@ -1,0 +1,339 @@
+// How long the lists of each call must be: each function tells the lengths for the call of its name, at the front of `lengths`, in the order of the
+// call's list parameters. Love numbers are told as many as water heights need; other functionals read none.
+mod leaves;
+
+use model_file::Reading;
+use refusal::Answer;
+use refusal::Refusal;
+ghost use mathlib.Core.Path.{_≡_};
+ghost use lib.ListN.{length};
+ghost use Rattle.refusal.specs.declared.Answer.the-variants.{Done};
+ghost use Rattle.model_file.specs.Format.{headOf};
+ghost use Rattle.lengths.specs.Told.{sizeCheck, lengthsCheck, lengthsAfter};
+ghost use Rattle.lengths.specs.Lengths.{degreeSize, twoDegrees, gridSizes, alongSizes, readSizes, tablesLengths, factorLengths, truncatedLengths};
+ghost use Rattle.lengths.specs.Lengths.{variancesLengths, amplitudesLengths, readLengths, writeLengths, gaussLengths, gridLengths, averageLengths};
+ghost use Rattle.lengths.specs.Lengths.{partialsLengths, alongLengths, threeLengths, analysisLengths, eigenLengths, capLengths};
+
+// The most nodes of a Gauss–Legendre rule.
+const MAX_NODES: usize = 2701;
+
+// `factor`: love.
+pub fn factor(n: usize, lengths: &mut [usize]) -> Answer
+    ensures { λ x. ⌜ x ≡ lengthsCheck (degreeSize n) (factorLengths n) (length (now (lengths .entry))) ⌝ }
+    ensures { λ x. ⌜ now (lengths .exit) ≡ lengthsAfter (degreeSize n) (factorLengths n) (now (lengths .entry)) ⌝ }
+{
+    if n > storage::MAX_DEGREE {
+        return Answer::Refused(Refusal::Size);
+    }
+    let told = [n + 1];
+    leaves::tell(&told, lengths)
+}
+
+// `zeros`: c, s.
+pub fn zeros(nmax: usize, lengths: &mut [usize]) -> Answer
+    ensures { λ x. ⌜ x ≡ lengthsCheck (degreeSize nmax) (tablesLengths 2 nmax) (length (now (lengths .entry))) ⌝ }
+    ensures { λ x. ⌜ now (lengths .exit) ≡ lengthsAfter (degreeSize nmax) (tablesLengths 2 nmax) (now (lengths .entry)) ⌝ }
+{
+    leaves::tables(2, nmax, lengths)
+}
+
+// `coefficient_c`: c.
+pub fn coefficient_c(nmax: usize, lengths: &mut [usize]) -> Answer
+    ensures { λ x. ⌜ x ≡ lengthsCheck (degreeSize nmax) (tablesLengths 1 nmax) (length (now (lengths .entry))) ⌝ }
+    ensures { λ x. ⌜ now (lengths .exit) ≡ lengthsAfter (degreeSize nmax) (tablesLengths 1 nmax) (now (lengths .entry)) ⌝ }
+{
+    leaves::tables(1, nmax, lengths)
+}
+
+// `coefficient_s`: s.
+pub fn coefficient_s(nmax: usize, lengths: &mut [usize]) -> Answer
+    ensures { λ x. ⌜ x ≡ lengthsCheck (degreeSize nmax) (tablesLengths 1 nmax) (length (now (lengths .entry))) ⌝ }
+    ensures { λ x. ⌜ now (lengths .exit) ≡ lengthsAfter (degreeSize nmax) (tablesLengths 1 nmax) (now (lengths .entry)) ⌝ }
+{
+    leaves::tables(1, nmax, lengths)
+}
+
+// `set`: c, s.
+pub fn set(nmax: usize, lengths: &mut [usize]) -> Answer
+    ensures { λ x. ⌜ x ≡ lengthsCheck (degreeSize nmax) (tablesLengths 2 nmax) (length (now (lengths .entry))) ⌝ }
+    ensures { λ x. ⌜ now (lengths .exit) ≡ lengthsAfter (degreeSize nmax) (tablesLengths 2 nmax) (now (lengths .entry)) ⌝ }
+{
+    leaves::tables(2, nmax, lengths)
+}
+
+// `truncated`: c, s, and the two tables up to the cut.
+pub fn truncated(nmax: usize, cut: usize, lengths: &mut [usize]) -> Answer
+    ensures { λ x. ⌜ x ≡ lengthsCheck (degreeSize nmax) (truncatedLengths nmax cut) (length (now (lengths .entry))) ⌝ }
+    ensures { λ x. ⌜ now (lengths .exit) ≡ lengthsAfter (degreeSize nmax) (truncatedLengths nmax cut) (now (lengths .entry)) ⌝ }
+{
+    if nmax > storage::MAX_DEGREE {
+        return Answer::Refused(Refusal::Size);
+    }
+    let size = leaves::entries(nmax);
+    let below = leaves::entries(storage::smaller(cut, nmax));
+    let told = [size, size, below, below];
+    leaves::tell(&told, lengths)
+}
+
+// `rescaled`: c, s, and the two new tables.
+pub fn rescaled(nmax: usize, lengths: &mut [usize]) -> Answer
+    ensures { λ x. ⌜ x ≡ lengthsCheck (degreeSize nmax) (tablesLengths 4 nmax) (length (now (lengths .entry))) ⌝ }
+    ensures { λ x. ⌜ now (lengths .exit) ≡ lengthsAfter (degreeSize nmax) (tablesLengths 4 nmax) (now (lengths .entry)) ⌝ }
+{
+    leaves::tables(4, nmax, lengths)
+}
+
+// `degree_variances`: c, s, out.
+pub fn degree_variances(nmax: usize, lengths: &mut [usize]) -> Answer
+    ensures { λ x. ⌜ x ≡ lengthsCheck (degreeSize nmax) (variancesLengths nmax) (length (now (lengths .entry))) ⌝ }
+    ensures { λ x. ⌜ now (lengths .exit) ≡ lengthsAfter (degreeSize nmax) (variancesLengths nmax) (now (lengths .entry)) ⌝ }
+{
+    if nmax > storage::MAX_DEGREE {
+        return Answer::Refused(Refusal::Size);
+    }
+    let size = leaves::entries(nmax);
+    let told = [size, size, nmax + 1];
+    leaves::tell(&told, lengths)
+}
+
+// `degree_amplitudes`: c, s, love, out.
+pub fn degree_amplitudes(nmax: usize, lengths: &mut [usize]) -> Answer
+    ensures { λ x. ⌜ x ≡ lengthsCheck (degreeSize nmax) (amplitudesLengths nmax) (length (now (lengths .entry))) ⌝ }
+    ensures { λ x. ⌜ now (lengths .exit) ≡ lengthsAfter (degreeSize nmax) (amplitudesLengths nmax) (now (lengths .entry)) ⌝ }
+{
+    if nmax > storage::MAX_DEGREE {
+        return Answer::Refused(Refusal::Size);
+    }
+    let size = leaves::entries(nmax);
+    let told = [size, size, nmax + 1, nmax + 1];
+    leaves::tell(&told, lengths)
+}
+
+// `model_read`: the bytes of a file, c, s, and the four words of its head. Only the head is looked at, the first 20 bytes.
+pub fn model_read(bytes: &[u8], lengths: &mut [usize]) -> Answer
+    ensures { λ x. ⌜ x ≡ lengthsCheck (readSizes (headOf (now (bytes .entry)))) (readLengths (headOf (now (bytes .entry))))
+        (length (now (lengths .entry))) ⌝ }
+    ensures { λ x. ⌜ now (lengths .exit) ≡ lengthsAfter (readSizes (headOf (now (bytes .entry)))) (readLengths (headOf (now (bytes .entry))))
+        (now (lengths .entry)) ⌝ }
+{
+    match model_file::head(bytes) {
+        Reading::Refused(e) => Answer::Refused(e),
+        Reading::Model(h) => {
+            let nmax = h.nmax;
+            let size = leaves::entries(nmax);
+            let told = [21 + 17 * size, size, size, 4];
+            leaves::tell(&told, lengths)
+        }
+    }
+}
+
+// `model_write`: c, s, and the bytes.
+pub fn model_write(nmax: usize, lengths: &mut [usize]) -> Answer
+    ensures { λ x. ⌜ x ≡ lengthsCheck (degreeSize nmax) (writeLengths nmax) (length (now (lengths .entry))) ⌝ }
+    ensures { λ x. ⌜ now (lengths .exit) ≡ lengthsAfter (degreeSize nmax) (writeLengths nmax) (now (lengths .entry)) ⌝ }
+{
+    if nmax > storage::MAX_DEGREE {
+        return Answer::Refused(Refusal::Size);
+    }
+    let size = leaves::entries(nmax);
+    let told = [size, size, 21 + 17 * size];
+    leaves::tell(&told, lengths)
+}
+
+// `legendre_new`: a, b.
+pub fn legendre_new(nmax: usize, lengths: &mut [usize]) -> Answer
+    ensures { λ x. ⌜ x ≡ lengthsCheck (degreeSize nmax) (tablesLengths 2 nmax) (length (now (lengths .entry))) ⌝ }
+    ensures { λ x. ⌜ now (lengths .exit) ≡ lengthsAfter (degreeSize nmax) (tablesLengths 2 nmax) (now (lengths .entry)) ⌝ }
+{
+    leaves::tables(2, nmax, lengths)
+}
+
+// `legendre_compute`: a, b, p.
+pub fn legendre_compute(nmax: usize, lengths: &mut [usize]) -> Answer
+    ensures { λ x. ⌜ x ≡ lengthsCheck (degreeSize nmax) (tablesLengths 3 nmax) (length (now (lengths .entry))) ⌝ }
+    ensures { λ x. ⌜ now (lengths .exit) ≡ lengthsAfter (degreeSize nmax) (tablesLengths 3 nmax) (now (lengths .entry)) ⌝ }
+{
+    leaves::tables(3, nmax, lengths)
+}
+
+// `legendre_compute_with_derivative`: a, b, p, dp.
+pub fn legendre_compute_with_derivative(nmax: usize, lengths: &mut [usize]) -> Answer
+    ensures { λ x. ⌜ x ≡ lengthsCheck (degreeSize nmax) (tablesLengths 4 nmax) (length (now (lengths .entry))) ⌝ }
+    ensures { λ x. ⌜ now (lengths .exit) ≡ lengthsAfter (degreeSize nmax) (tablesLengths 4 nmax) (now (lengths .entry)) ⌝ }
+{
+    leaves::tables(4, nmax, lengths)
+}
+
+// `legendre_entry`: the table.
+pub fn legendre_entry(nmax: usize, lengths: &mut [usize]) -> Answer
+    ensures { λ x. ⌜ x ≡ lengthsCheck (degreeSize nmax) (tablesLengths 1 nmax) (length (now (lengths .entry))) ⌝ }
+    ensures { λ x. ⌜ now (lengths .exit) ≡ lengthsAfter (degreeSize nmax) (tablesLengths 1 nmax) (now (lengths .entry)) ⌝ }
+{
+    leaves::tables(1, nmax, lengths)
+}
+
+// `gauss_legendre`: guesses, x, w.
+pub fn gauss_legendre(n: usize, lengths: &mut [usize]) -> Answer
+    ensures { λ x. ⌜ x ≡ lengthsCheck (sizeCheck 2701 n) (gaussLengths n) (length (now (lengths .entry))) ⌝ }
+    ensures { λ x. ⌜ now (lengths .exit) ≡ lengthsAfter (sizeCheck 2701 n) (gaussLengths n) (now (lengths .entry)) ⌝ }
+{
+    if n > MAX_NODES {
+        return Answer::Refused(Refusal::Size);
+    }
+    let told = [(n + 1) / 2, n, n];
+    leaves::tell(&told, lengths)
+}
+
+// `grid`: c, s, love, latitudes, trig, work, out.
+pub fn grid(nmax: usize, rows: usize, longitudes: usize, lengths: &mut [usize]) -> Answer
+    ensures { λ x. ⌜ x ≡ lengthsCheck (gridSizes nmax rows longitudes) (gridLengths nmax rows longitudes) (length (now (lengths .entry))) ⌝ }
+    ensures { λ x. ⌜ now (lengths .exit) ≡ lengthsAfter (gridSizes nmax rows longitudes) (gridLengths nmax rows longitudes) (now (lengths .entry)) ⌝ }
+{
+    if rows > synthesis::MAX_LINES {
+        return Answer::Refused(Refusal::Size);
+    }
+    if longitudes > synthesis::MAX_LINES {
+        return Answer::Refused(Refusal::Size);
+    }
+    if nmax > storage::MAX_DEGREE {
+        return Answer::Refused(Refusal::Size);
+    }
+    let size = leaves::entries(nmax);
+    let trig = leaves::product(longitudes, nmax + nmax + 2);
+    let work = 3 * size + 3 * (nmax + 1);
+    let out = leaves::product(rows, longitudes);
+    let told = [size, size, nmax + 1, rows + rows, trig, work, out];
+    leaves::tell(&told, lengths)
+}
+
+// `basin_average`: c, s, the kernel's two tables, love.
+pub fn basin_average(nmax: usize, kmax: usize, lengths: &mut [usize]) -> Answer
+    ensures { λ x. ⌜ x ≡ lengthsCheck (twoDegrees nmax kmax) (averageLengths nmax kmax) (length (now (lengths .entry))) ⌝ }
+    ensures { λ x. ⌜ now (lengths .exit) ≡ lengthsAfter (twoDegrees nmax kmax) (averageLengths nmax kmax) (now (lengths .entry)) ⌝ }
+{
+    if kmax > storage::MAX_DEGREE {
+        return Answer::Refused(Refusal::Size);
+    }
+    if nmax > storage::MAX_DEGREE {
+        return Answer::Refused(Refusal::Size);
+    }
+    let size = leaves::entries(nmax);
+    let kernel = leaves::entries(kmax);
+    let told = [size, size, kernel, kernel, storage::smaller(nmax, kmax) + 1];
+    leaves::tell(&told, lengths)
+}
+
+// `partials`: c, s, trig, work, out.
+pub fn partials(nmax: usize, lengths: &mut [usize]) -> Answer
+    ensures { λ x. ⌜ x ≡ lengthsCheck (degreeSize nmax) (partialsLengths nmax) (length (now (lengths .entry))) ⌝ }
+    ensures { λ x. ⌜ now (lengths .exit) ≡ lengthsAfter (degreeSize nmax) (partialsLengths nmax) (now (lengths .entry)) ⌝ }
+{
+    if nmax > storage::MAX_DEGREE {
+        return Answer::Refused(Refusal::Size);
+    }
+    let size = leaves::entries(nmax);
+    let told = [size, size, nmax + nmax + 2, 4 * size, 4];
+    leaves::tell(&told, lengths)
+}
+
+// `partials_along`: c, s, radii, latitudes, trig, work, out.
+pub fn partials_along(nmax: usize, points: usize, lengths: &mut [usize]) -> Answer
+    ensures { λ x. ⌜ x ≡ lengthsCheck (alongSizes nmax points) (alongLengths nmax points) (length (now (lengths .entry))) ⌝ }
+    ensures { λ x. ⌜ now (lengths .exit) ≡ lengthsAfter (alongSizes nmax points) (alongLengths nmax points) (now (lengths .entry)) ⌝ }
+{
+    if points > partials::MAX_POINTS {
+        return Answer::Refused(Refusal::Size);
+    }
+    if nmax > storage::MAX_DEGREE {
+        return Answer::Refused(Refusal::Size);
+    }
+    let size = leaves::entries(nmax);
+    let trig = leaves::product(points, nmax + nmax + 2);
+    let told = [
+        size,
+        size,
+        points,
+        points + points,
+        trig,
+        4 * size,
+        4 * points,
+    ];
+    leaves::tell(&told, lengths)
+}
+
+// `acceleration_neu`: out.
+pub fn acceleration_neu(lengths: &mut [usize]) -> Answer
+    ensures { λ x. ⌜ x ≡ lengthsCheck Done threeLengths (length (now (lengths .entry))) ⌝ }
+    ensures { λ x. ⌜ now (lengths .exit) ≡ lengthsAfter Done threeLengths (now (lengths .entry)) ⌝ }
+{
+    leaves::three(lengths)
+}
+
+// `gravity_neu`: out.
+pub fn gravity_neu(lengths: &mut [usize]) -> Answer
+    ensures { λ x. ⌜ x ≡ lengthsCheck Done threeLengths (length (now (lengths .entry))) ⌝ }
+    ensures { λ x. ⌜ now (lengths .exit) ≡ lengthsAfter Done threeLengths (now (lengths .entry)) ⌝ }
+{
+    leaves::three(lengths)
+}
+
+// `analysis`: love, values, weights, latitudes, trig, work, c, s.
+pub fn analysis(nmax: usize, lengths: &mut [usize]) -> Answer
+    ensures { λ x. ⌜ x ≡ lengthsCheck (degreeSize nmax) (analysisLengths nmax) (length (now (lengths .entry))) ⌝ }
+    ensures { λ x. ⌜ now (lengths .exit) ≡ lengthsAfter (degreeSize nmax) (analysisLengths nmax) (now (lengths .entry)) ⌝ }
+{
+    if nmax > storage::MAX_DEGREE {
+        return Answer::Refused(Refusal::Size);
+    }
+    let size = leaves::entries(nmax);
+    let rows = nmax + 1;
+    let points = leaves::product(rows, nmax + nmax + 2);
+    let told = [
+        rows,
+        points,
+        rows,
+        rows + rows,
+        points + points,
+        3 * size,
+        size,
+        size,
+    ];
+    leaves::tell(&told, lengths)
+}
+
+// `symmetric_eigen`: a, work, values, vectors.
+pub fn symmetric_eigen(n: usize, lengths: &mut [usize]) -> Answer
+    ensures { λ x. ⌜ x ≡ lengthsCheck (sizeCheck 512 n) (eigenLengths n) (length (now (lengths .entry))) ⌝ }
+    ensures { λ x. ⌜ now (lengths .exit) ≡ lengthsAfter (sizeCheck 512 n) (eigenLengths n) (now (lengths .entry)) ⌝ }
+{
+    leaves::matrices(n, lengths)
+}
+
+// `householder_ql`: a, work, values, vectors.
+pub fn householder_ql(n: usize, lengths: &mut [usize]) -> Answer
+    ensures { λ x. ⌜ x ≡ lengthsCheck (sizeCheck 512 n) (eigenLengths n) (length (now (lengths .entry))) ⌝ }
+    ensures { λ x. ⌜ now (lengths .exit) ≡ lengthsAfter (sizeCheck 512 n) (eigenLengths n) (now (lengths .entry)) ⌝ }
+{
+    leaves::matrices(n, lengths)
+}
+
+// `polar_cap`: weights, latitudes, work, orders, concentrations, vectors.
+pub fn polar_cap(lmax: usize, lengths: &mut [usize]) -> Answer
+    ensures { λ x. ⌜ x ≡ lengthsCheck (sizeCheck 180 lmax) (capLengths lmax) (length (now (lengths .entry))) ⌝ }
+    ensures { λ x. ⌜ now (lengths .exit) ≡ lengthsAfter (sizeCheck 180 lmax) (capLengths lmax) (now (lengths .entry)) ⌝ }
+{
+    if lmax > polar_cap::polar::MAX_CAP {
+        return Answer::Refused(Refusal::Size);
+    }
+    let count = lmax + 1;
+    let sizes = polar_cap::polar::cap_sizes(lmax);
+    let told = [
+        count,
+        count + count,
+        sizes.work,
+        sizes.functions,
+        sizes.functions,
+        sizes.numbers,
+    ];
+    leaves::tell(&told, lengths)
+}

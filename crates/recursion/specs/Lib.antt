@@ -1,0 +1,3 @@
+pub mod Recursion
+pub mod RecursionLaws
+pub mod Tables
