@@ -1,4 +1,4 @@
-//! Links the proved static library, made by `rt staticlib geopotential`.
+//! Links the proved static library, made by `tools/make-library`.
 
 use std::env;
 use std::path::PathBuf;

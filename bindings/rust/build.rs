@@ -1,4 +1,4 @@
-//! Links the proved static library, made by `rt staticlib geopotential`.
+//! Links the proved static library, made by `tools/make-library`.
 
 use std::env;
 use std::path::PathBuf;
@@ -12,7 +12,7 @@ fn main() {
     println!("cargo::rerun-if-changed={}", library.display());
     if !library.is_file() {
         println!(
-            "cargo::error={} is absent: make it by `rt staticlib geopotential` in the repository's root, or name its folder in GEOPOTENTIAL_LIB_DIR",
+            "cargo::error={} is absent: make it by tools/make-library, or name its folder in GEOPOTENTIAL_LIB_DIR",
             library.display()
         );
         return;

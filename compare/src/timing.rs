@@ -7,9 +7,16 @@ const ROUNDS: usize = 21;
 /// Work of more than half a second is timed fewer times.
 const LONG: f64 = 0.5e9;
 const FEW_ROUNDS: usize = 3;
+/// Rounds of differences.
+const MORE_ROUNDS: usize = 5;
 
 pub fn header() {
-    println!("{:<36}{:>12}{:>12}{:>12}", "ns a call, median", "ours", "Rust", "ours/Rust");
+    println!("{:<42}{:>16}{:>16}{:>11}", "ns a call, median", "ours", "Rust", "ours/Rust");
+}
+
+/// Two times of so many calls, and their ratio.
+fn print_row(name: &str, ours: f64, rust: f64, calls: f64) {
+    println!("{name:<42}{:>16.2}{:>16.2}{:>11.2}", ours / calls, rust / calls, ours / rust);
 }
 
 fn median(mut times: Vec<f64>) -> f64 {
@@ -33,28 +40,28 @@ fn medians<A>(mut ours: impl FnMut() -> A, mut rust: impl FnMut() -> A) -> (f64,
 /// Time two pieces of work of `calls` calls each and print the time of a call.
 pub fn race<A>(name: &str, calls: usize, ours: impl FnMut() -> A, rust: impl FnMut() -> A) {
     let (ours, rust) = medians(ours, rust);
-    println!("{name:<36}{:>12.2}{:>12.2}{:>12.2}", ours / calls as f64, rust / calls as f64, ours / rust);
+    print_row(name, ours, rust, calls as f64);
 }
 
-/// Time two pieces of work, each without a part of it that is timed by itself in the same rounds, and print the time of a call.
-pub fn race_without<A>(
-    name: &str,
-    calls: usize,
-    ours: impl FnMut() -> A,
-    rust: impl FnMut() -> A,
-    our_part: impl FnMut() -> A,
-    rust_part: impl FnMut() -> A,
-) {
-    let (ours, rust) = medians(ours, rust);
-    let (our_part, rust_part) = medians(our_part, rust_part);
-    let (ours, rust) = (ours - our_part, rust - rust_part);
-    println!("{name:<36}{:>12.2}{:>12.2}{:>12.2}", ours / calls as f64, rust / calls as f64, ours / rust);
+/// Time work on `many` things and on one of them, both sides turn by turn, and print the time that one more takes: what every call does
+/// whatever the number of things is left out.
+pub fn race_more<S>(name: &str, state: &mut S, many: usize, ours: impl Fn(&mut S, usize) -> u32, rust: impl Fn(&mut S, usize) -> u32) {
+    let mut more = |work: &dyn Fn(&mut S, usize) -> u32| {
+        let mut time = |things: usize| {
+            let start = Instant::now();
+            black_box(work(state, things));
+            start.elapsed().as_nanos() as f64
+        };
+        (time(many) - time(1)) / (many - 1) as f64
+    };
+    let (ours, rust): (Vec<f64>, Vec<f64>) = (0..MORE_ROUNDS).map(|_| (more(&ours), more(&rust))).unzip();
+    print_row(name, median(ours), median(rust), 1.0);
 }
 
 /// Time two pieces of work on so many bytes and print how many go through in a nanosecond; the ratio is that of the times.
 pub fn race_bytes<A>(name: &str, bytes: usize, ours: impl FnMut() -> A, rust: impl FnMut() -> A) {
     let (ours, rust) = medians(ours, rust);
-    println!("{name:<36}{:>12.2}{:>12.2}{:>12.2}", bytes as f64 / ours, bytes as f64 / rust, ours / rust);
+    println!("{name:<42}{:>16.2}{:>16.2}{:>11.2}", bytes as f64 / ours, bytes as f64 / rust, ours / rust);
 }
 
 /// An answer as a word, so that a loop can use it.
