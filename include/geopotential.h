@@ -73,7 +73,7 @@ uint32_t geopotential_ranks_before(double x, double y);
 
 /* ---- functionals */
 
-/* The factor of degree n. Refused by 255, 1 (n above 2700), 5. *value is left alone on a refusal. */
+/* The factor of degree n. love: n+1 numbers or more for water heights. Refused by 255, 1 (n above 2700), 5. *value is left alone on a refusal. */
 uint32_t geopotential_factor(uint32_t functional, const double *love, size_t love_len, size_t n, double gm, double radius, double r,
                              double *value);
 
@@ -96,7 +96,8 @@ uint32_t geopotential_rescaled(double gm, double radius, size_t nmax, const doub
 /* The sum of the squares of each degree, N+1 numbers. Refused by 1, 2, 3. */
 uint32_t geopotential_degree_variances(size_t nmax, const double *c, size_t c_len, const double *s, size_t s_len, double *out,
                                        size_t out_len);
-/* The functional's amplitude of each degree on the reference sphere, N+1 numbers. Refused by 255, 1, 2, 5, 3. */
+/* The functional's amplitude of each degree on the reference sphere, N+1 numbers. love: N+1 or more for water heights. Refused by 255, 1, 2, 5,
+ * 3. */
 uint32_t geopotential_degree_amplitudes(double gm, double radius, size_t nmax, const double *c, size_t c_len, const double *s, size_t s_len,
                                         uint32_t functional, const double *love, size_t love_len, double *out, size_t out_len);
 
@@ -122,36 +123,39 @@ uint32_t geopotential_legendre_compute_with_derivative(size_t nmax, double t, do
                                                        size_t b_len, double *p, size_t p_len, double *dp, size_t dp_len);
 /* One entry of a table of P or of its derivatives. Refused by 1, 2, 4; *value is left alone on a refusal. */
 uint32_t geopotential_legendre_entry(size_t nmax, const double *table, size_t table_len, size_t n, size_t m, double *value);
-/* The n nodes and weights of a Gauss-Legendre rule, from n/2 guesses, rounded up, the largest root's first. Refused by 1 (n above 2701), 2,
- * 3. */
+/* The n nodes and weights of a Gauss-Legendre rule, from n/2 guesses, rounded up, the largest root's first. x, w: n. Refused by 1 (n above
+ * 2701), 2, 3. */
 uint32_t geopotential_gauss_legendre(size_t n, const double *guesses, size_t guesses_len, double *x, size_t x_len, double *w,
                                      size_t w_len);
 
 /* ---- fields on grids and at points */
 
-/* A functional at radius r on rows by longitudes: out[i * longitudes + j]. latitudes: a pair for each row; trig: for each longitude the cosine
- * and the sine of m times it, m from 0 to N. Each finite value is proved to lie within a margin of the exact sum of its terms. Refused by 255,
- * 1, 2, 5, 3. */
+/* A functional at radius r on rows by longitudes: out[i * longitudes + j]. c, s: T; love: N+1 or more for water heights; latitudes: 2 rows, a
+ * pair for each row; trig: longitudes (2N+2), for each longitude the cosine and the sine of m times it, m from 0 to N; work: 3T + 3(N+1); out:
+ * rows longitudes. Each finite value is proved to lie within a margin of the exact sum of its terms. Refused by 255, 1, 2, 5, 3. */
 uint32_t geopotential_grid(double gm, double radius, size_t nmax, const double *c, size_t c_len, const double *s, size_t s_len,
                            uint32_t functional, const double *love, size_t love_len, double r, size_t rows, const double *latitudes,
                            size_t latitudes_len, size_t longitudes, const double *trig, size_t trig_len, double *work, size_t work_len,
                            double *out, size_t out_len);
-/* V, its derivatives by r, latitude and longitude, at one point. trig: as for one longitude of a grid. Refused by 1, 2, 3. */
+/* V, its derivatives by r, latitude and longitude, at one point. trig: 2N+2, as for one longitude of a grid; work: 4T; out: 4. Refused by 1, 2,
+ * 3. */
 uint32_t geopotential_partials(double gm, double radius, size_t nmax, const double *c, size_t c_len, const double *s, size_t s_len, double r,
                                double t, double u, const double *trig, size_t trig_len, double *work, size_t work_len, double *out,
                                size_t out_len);
-/* The same at many points, four numbers for each; the tables are worked out once. Refused by 1, 2, 3. */
+/* The same at many points, four numbers for each; the tables are worked out once. radii: points; latitudes: 2 points; trig: points (2N+2); work:
+ * 4T; out: 4 points. Refused by 1, 2, 3. */
 uint32_t geopotential_partials_along(double gm, double radius, size_t nmax, const double *c, size_t c_len, const double *s, size_t s_len,
                                      size_t points, const double *radii, size_t radii_len, const double *latitudes, size_t latitudes_len,
                                      const double *trig, size_t trig_len, double *work, size_t work_len, double *out, size_t out_len);
-/* The gravitational acceleration from the four numbers of a point: north, east, up. Refused by 3. */
+/* The gravitational acceleration from the four numbers of a point: north, east, up. out: 3. Refused by 3. */
 uint32_t geopotential_acceleration_neu(double v, double dr, double dlat, double dlon, double r, double t, double u, double *out,
                                        size_t out_len);
 /* Gravity: the same with the centrifugal term of a rotation omega. Refused by 3. */
 uint32_t geopotential_gravity_neu(double v, double dr, double dlat, double dlon, double r, double t, double u, double omega, double *out,
                                   size_t out_len);
-/* The coefficients of a functional's values on N+1 Gauss rows of 2N+2 longitudes, the inverse of grid. trig: order after order, for each
- * longitude the cosine and the sine of m times it. Refused by 255, 1, 2, 5, 3. */
+/* The coefficients of a functional's values on N+1 Gauss rows of 2N+2 longitudes, the inverse of grid. love: N+1 or more for water heights;
+ * values: (N+1)(2N+2), row after row; weights: N+1; latitudes: 2(N+1); trig: 2(N+1)(2N+2), order after order, for each longitude the cosine and
+ * the sine of m times it; work: 3T; c, s: T. Refused by 255, 1, 2, 5, 3. */
 uint32_t geopotential_analysis(uint32_t functional, const double *love, size_t love_len, double r, size_t nmax, double gm, double radius,
                                const double *values, size_t values_len, const double *weights, size_t weights_len, const double *latitudes,
                                size_t latitudes_len, const double *trig, size_t trig_len, double *work, size_t work_len, double *c,
@@ -159,21 +163,23 @@ uint32_t geopotential_analysis(uint32_t functional, const double *love, size_t l
 
 /* ---- eigenvalues, caps and basins */
 
-/* The eigenvalues of a symmetric n by n matrix, in no order, and its eigenvectors as columns. One that has not settled is still answered.
- * Refused by 1 (n above 512), 2, 3. */
+/* The eigenvalues of a symmetric n by n matrix, in no order, and its eigenvectors as columns. One that has not settled is still answered. a: n^2;
+ * work: n^2 + 4n; values: n; vectors: n^2. Refused by 1 (n above 512), 2, 3. */
 uint32_t geopotential_symmetric_eigen(size_t n, const double *a, size_t a_len, double *work, size_t work_len, double *values,
                                       size_t values_len, double *vectors, size_t vectors_len);
 /* The same by Householder reduction and QL iteration at every n. */
 uint32_t geopotential_householder_ql(size_t n, const double *a, size_t a_len, double *work, size_t work_len, double *values,
                                      size_t values_len, double *vectors, size_t vectors_len);
 /* The Slepian functions to degree L of the polar cap whose angle has this cosine, best concentrated first: orders (as numbers),
- * concentrations, and the vectors end to end, L-m+1 numbers each. weights and latitudes are those of the L+1 Gauss nodes over the cap.
- * Refused by 1 (L above 180), 2, 3. */
+ * concentrations, and the vectors end to end, L-m+1 numbers each. weights and latitudes, L+1 and 2(L+1), are those of
+ * the L+1 Gauss nodes over the cap. With k = L+1 and T = k(k+1)/2: orders and concentrations T; vectors: k(k+1)(2k+1)/6; work: 3T + 4k^2 + 5k and
+ * these three lengths. Refused by 1 (L above 180), 2, 3. */
 uint32_t geopotential_polar_cap(size_t lmax, double cosine, const double *weights, size_t weights_len, const double *latitudes,
                                 size_t latitudes_len, double *work, size_t work_len, double *orders, size_t orders_len,
                                 double *concentrations, size_t concentrations_len, double *vectors, size_t vectors_len);
-/* A functional's average over a basin by its kernel, up to the smaller degree. Refused by 255, 1, 2, 5; *value is left alone on a refusal.
- * A finite value is proved to lie within a margin of the exact sum of its terms. */
+/* A functional's average over a basin by its kernel, up to the smaller degree M. c, s: T; kc, ks: the same of kmax; love: M+1 or more for water
+ * heights. A finite value is proved to lie within a margin of the exact sum of its terms. Refused by 255, 1, 2, 5; *value is left alone on a
+ * refusal. */
 uint32_t geopotential_basin_average(double gm, double radius, size_t nmax, const double *c, size_t c_len, const double *s, size_t s_len,
                                     size_t kmax, const double *kc, size_t kc_len, const double *ks, size_t ks_len, uint32_t functional,
                                     const double *love, size_t love_len, double r, double *value);
