@@ -1,12 +1,14 @@
 #!/usr/bin/env python3
 """Holds include/geopotential.h against the entries of the crate geopotential: the same names, the same parameters with the same names and types
-in the same order, the same results. Prints each difference; the exit status is 1 where there is one."""
+in the same order, the same results; and the declarations of the Rust crate and of the comparison, which may leave entries out. Prints each
+difference; the exit status is 1 where there is one."""
 
 import pathlib
 import re
 import sys
 
 ROOT = pathlib.Path(__file__).resolve().parents[2]
+RUST = ["bindings/rust/src/ffi.rs", "bindings/rust/src/ffi/lengths.rs", "compare/src/entries.rs"]
 NUMBERS = {"f64": "double", "usize": "size_t", "u8": "uint8_t", "u32": "uint32_t", "u64": "uint64_t"}
 
 
@@ -42,6 +44,28 @@ def declared(header):
     return {name: (result, [" ".join(p.split()) for p in parameters.split(",")]) for result, name, parameters in prototype.findall(text)}
 
 
+def declared_in_rust(file):
+    """The prototypes of a file of Rust, by name, in C's words."""
+    prototype = re.compile(r"pub (?:safe )?fn (geopotential_\w+)\(([^)]*)\) -> (\w+);")
+    found = {}
+    for name, parameters, result in prototype.findall(file.read_text()):
+        listed = [p.split(":") for p in parameters.split(",") if p.strip()]
+        found[name] = (NUMBERS[result], [from_rust(n.strip(), k.strip()) for n, k in listed])
+    return found
+
+
+def from_rust(name, kind):
+    pointer = re.fullmatch(r"\*(const|mut) (\w+)", kind)
+    if pointer is None:
+        return f"{NUMBERS[kind]} {name}"
+    return f"{'const ' if pointer[1] == 'const' else ''}{NUMBERS[pointer[2]]} *{name}"
+
+
+def plain(prototype):
+    """A prototype without the underscores in its parameters' names, which Rust sets more often."""
+    return prototype and (prototype[0], [p.replace("_", "") for p in prototype[1]])
+
+
 def main():
     source, header = exported(), declared(ROOT / "include/geopotential.h")
     differences = [f"{name}: in the library, not in the header" for name in source if name not in header]
@@ -49,6 +73,10 @@ def main():
     for name in source:
         if name in header and source[name] != header[name]:
             differences.append(f"{name}:\n  library {source[name]}\n  header  {header[name]}")
+    for file in RUST:
+        for name, prototype in declared_in_rust(ROOT / file).items():
+            if plain(source.get(name)) != plain(prototype):
+                differences.append(f"{name}:\n  library {source.get(name)}\n  {file} {prototype}")
     print("\n".join(differences) if differences else f"header: {len(source)} entries, as the library exports them")
     sys.exit(1 if differences else 0)
 
