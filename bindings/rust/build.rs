@@ -11,10 +11,7 @@ fn main() {
     println!("cargo::rerun-if-env-changed=GEOPOTENTIAL_LIB_DIR");
     println!("cargo::rerun-if-changed={}", library.display());
     if !library.is_file() {
-        println!(
-            "cargo::error={} is absent: make it by tools/make-library, or name its folder in GEOPOTENTIAL_LIB_DIR",
-            library.display()
-        );
+        println!("cargo::error={} is absent: make it by tools/make-library, or name its folder in GEOPOTENTIAL_LIB_DIR", library.display());
         return;
     }
     println!("cargo::rustc-link-search=native={}", folder.display());

@@ -85,7 +85,7 @@ pub fn random(cases: &mut Cases) -> Vec<u8> {
             3 => change(&mut bytes, 17, byte % 8),
             4 => change(&mut bytes, 18, (nmax as u8 + 1).wrapping_sub(byte % 3)),
             5 => change(&mut bytes, 19, byte % 16),
-            6 => bytes.truncate(if byte % 2 == 0 { start } else { place }),
+            6 => bytes.truncate(if byte.is_multiple_of(2) { start } else { place }),
             7 => (0..1 + byte % 20).for_each(|_| bytes.push(cases.bits() as u8)),
             8 => {
                 let stop = (start + 17).min(bytes.len());

@@ -1,5 +1,7 @@
 //! Times of the crate `partials`. The Rust builds its tables at every point; `partials_along` builds them once.
 
+use core::f64::consts::TAU;
+
 use oracle::Coefficients;
 
 use super::four;
@@ -48,7 +50,7 @@ fn along(nmax: usize, points: usize) {
     let share = |i: usize| i as f64 / points as f64;
     let radii: Vec<f64> = (0..points).map(|i| field.radius * (1.05 + 0.01 * share(i))).collect();
     let latitudes: Vec<(f64, f64)> = (0..points).map(|i| pair(1.5 - 3.0 * share(i))).collect();
-    let longitudes: Vec<Vec<(f64, f64)>> = (0..points).map(|i| orders(6.28 * share(i), nmax)).collect();
+    let longitudes: Vec<Vec<(f64, f64)>> = (0..points).map(|i| orders(TAU * share(i), nmax)).collect();
     let (lats, angles) = (flat(&latitudes), longitudes.iter().flat_map(|lon| flat(lon)).collect::<Vec<f64>>());
     let (size, mut work, mut out) = (table(nmax), vec![0.0; 4 * table(nmax)], vec![0.0; 4 * points]);
     let (gm, radius, c, s) = (field.gm, field.radius, field.c.as_ptr(), field.s.as_ptr());

@@ -1,6 +1,8 @@
 //! Times of the crate `synthesis`. Both grids build the recursion coefficients in every call; the line `no tables` is a row alone, the difference
 //! between grids of many rows and of one.
 
+use core::f64::consts::TAU;
+
 use oracle::Coefficients;
 
 use super::work_size;
@@ -44,7 +46,7 @@ impl Grid {
         let mut field = Coefficients::zeros(gm, radius, nmax);
         field.c.iter_mut().chain(&mut field.s).for_each(|cell| *cell = 1e-6 * (cases.fraction() - 0.5));
         let latitudes: Vec<(f64, f64)> = (0..rows).map(|i| pair(1.5 - 3.0 * i as f64 / rows as f64)).collect();
-        let longitudes: Vec<Vec<(f64, f64)>> = (0..columns).map(|j| orders(6.28 * j as f64 / columns as f64, nmax)).collect();
+        let longitudes: Vec<Vec<(f64, f64)>> = (0..columns).map(|j| orders(TAU * j as f64 / columns as f64, nmax)).collect();
         let pairs = latitudes.iter().flat_map(|&(t, u)| [t, u]).collect();
         let trig = longitudes.iter().flatten().flat_map(|&(c, s)| [c, s]).collect();
         Grid { field, latitudes, longitudes, pairs, trig, work: vec![0.0; work_size(nmax) as usize], out: vec![0.0; rows * columns] }
