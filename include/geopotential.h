@@ -1,6 +1,7 @@
 /* geopotential.h: the C entries of the verified gravity-field library libgeopotential.a (x86-64).
  *
- * Every entry is proved to end, to refuse exactly what is written here and to hand back the bits of the published recurrences.
+ * Every entry is proved to end, to refuse exactly what is written here and to hand back the bits of the published recurrences. Those of grid and
+ * basin_average are also proved to lie within a margin of the exact sum, under a premise; both are written there.
  *
  * Lists     A list is a pointer and then its length. N is the highest degree nmax and T = (N+1)(N+2)/2; the pair of degree n and order m
  *           stands at n(n+1)/2 + m. A latitude is its sine t and its cosine u; in a list t stands before its u and a cosine before its
@@ -25,6 +26,11 @@
 extern "C" {
 #endif
 
+/* The version of these entries, raised wherever an entry's parameters or the meaning of its answer change. A build compares the two:
+ * an object compiled against another header would link, and pass wrong parameters. */
+#define GEOPOTENTIAL_VERSION 1
+uint32_t geopotential_version(void);
+
 /* What a call answers. */
 enum geopotential_answer {
     GEOPOTENTIAL_DONE = 0,
@@ -43,7 +49,7 @@ enum geopotential_answer {
 /* The functionals of a field; only water heights read the Love numbers. */
 enum geopotential_functional {
     GEOPOTENTIAL_POTENTIAL = 0,           /* m^2/s^2 */
-    GEOPOTENTIAL_GEOID_HEIGHT = 1,        /* m */
+    GEOPOTENTIAL_GEOID_HEIGHT = 1,        /* m, by Bruns' formula with the sphere's gravity gm/r^2 */
     GEOPOTENTIAL_GRAVITY_DISTURBANCE = 2, /* m/s^2 */
     GEOPOTENTIAL_GRAVITY_ANOMALY = 3,     /* m/s^2 */
     GEOPOTENTIAL_RADIAL_GRADIENT = 4,     /* 1/s^2 */
@@ -132,7 +138,9 @@ uint32_t geopotential_gauss_legendre(size_t n, const double *guesses, size_t gue
 
 /* A functional at radius r on rows by longitudes: out[i * longitudes + j]. c, s: T; love: N+1 or more for water heights; latitudes: 2 rows, a
  * pair for each row; trig: longitudes (2N+2), for each longitude the cosine and the sine of m times it, m from 0 to N; work: 3T + 3(N+1); out:
- * rows longitudes. Each finite value is proved to lie within a margin of the exact sum of its terms. Refused by 255, 1, 2, 5, 3. */
+ * rows longitudes. Where c, s and the cosines and sines of a value's sum are at most 1 in size, and the value is finite, it lies within (2N+7)/2^53
+ * of the sum of the terms' sizes, plus 2(N+1)(N+3)/2^1074, of the exact sum of its terms: factor P c cos and factor P s sin of all T pairs, each
+ * by itself. Outside that premise nothing is promised of the distance. Refused by 255, 1, 2, 5, 3. */
 uint32_t geopotential_grid(double gm, double radius, size_t nmax, const double *c, size_t c_len, const double *s, size_t s_len,
                            uint32_t functional, const double *love, size_t love_len, double r, size_t rows, const double *latitudes,
                            size_t latitudes_len, size_t longitudes, const double *trig, size_t trig_len, double *work, size_t work_len,
@@ -178,8 +186,9 @@ uint32_t geopotential_polar_cap(size_t lmax, double cosine, const double *weight
                                 size_t latitudes_len, double *work, size_t work_len, double *orders, size_t orders_len,
                                 double *concentrations, size_t concentrations_len, double *vectors, size_t vectors_len);
 /* A functional's average over a basin by its kernel, up to the smaller degree M. c, s: T; kc, ks: the same of kmax; love: M+1 or more for water
- * heights. A finite value is proved to lie within a margin of the exact sum of its terms. Refused by 255, 1, 2, 5; *value is left alone on a
- * refusal. */
+ * heights. Where kc[0] is at most 1 in size and the value is finite, the value times kc[0] lies within (T+5)/2^53 of the sum of the terms' sizes,
+ * plus (3TF+1)/2^1074, of the exact sum of its terms: factor c kc and factor s ks of all T pairs up to M, each by itself; F is the larger of 1 and
+ * the largest factor's size. Refused by 255, 1, 2, 5; *value is left alone on a refusal. */
 uint32_t geopotential_basin_average(double gm, double radius, size_t nmax, const double *c, size_t c_len, const double *s, size_t s_len,
                                     size_t kmax, const double *kc, size_t kc_len, const double *ks, size_t ks_len, uint32_t functional,
                                     const double *love, size_t love_len, double r, double *value);

@@ -237,6 +237,7 @@ static void averages(void)
 
 int main(void)
 {
+    CHECK(geopotential_version() == GEOPOTENTIAL_VERSION);
     numbers();
     functionals();
     coefficients();

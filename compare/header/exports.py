@@ -1,6 +1,6 @@
 #!/usr/bin/env python3
 """Holds include/geopotential.h against the entries of the crate geopotential: the same names, the same parameters with the same names and types
-in the same order, the same results; and the declarations of the Rust crate and of the comparison, which may leave entries out. Prints each
+in the same order, the same results, the same version; and the declarations of the Rust crate and of the comparison, which may leave entries out. Prints each
 difference; the exit status is 1 where there is one."""
 
 import pathlib
@@ -41,7 +41,7 @@ def declared(header):
     """The prototypes of the header, by name."""
     text = re.sub(r"/\*.*?\*/", " ", header.read_text(), flags=re.S)
     prototype = re.compile(r"(double|uint32_t|uint64_t|size_t|void) (geopotential_\w+)\(([^)]*)\);")
-    return {name: (result, [" ".join(p.split()) for p in parameters.split(",")]) for result, name, parameters in prototype.findall(text)}
+    return {name: (result, [" ".join(p.split()) for p in parameters.split(",") if p.strip() != "void"]) for result, name, parameters in prototype.findall(text)}
 
 
 def declared_in_rust(file):
@@ -77,6 +77,10 @@ def main():
         for name, prototype in declared_in_rust(ROOT / file).items():
             if plain(source.get(name)) != plain(prototype):
                 differences.append(f"{name}:\n  library {source.get(name)}\n  {file} {prototype}")
+    constant = re.search(r"#define GEOPOTENTIAL_VERSION (\d+)", (ROOT / "include/geopotential.h").read_text())
+    version = re.search(r"r ≡ (\d+)", (ROOT / "crates/geopotential/src/version.rt").read_text())
+    if constant is None or version is None or constant[1] != version[1]:
+        differences.append("GEOPOTENTIAL_VERSION: the header's constant is not what geopotential_version answers")
     print("\n".join(differences) if differences else f"header: {len(source)} entries, as the library exports them")
     sys.exit(1 if differences else 0)
 

@@ -5,3 +5,14 @@ mod entries;
 pub mod lengths;
 
 pub use entries::*;
+
+#[cfg(test)]
+mod tests {
+    /// The version that these declarations are of; include/geopotential.h has the same number.
+    const VERSION: u32 = 1;
+
+    #[test]
+    fn the_library_is_of_the_version_that_is_declared() {
+        assert_eq!(super::geopotential_version(), VERSION);
+    }
+}

@@ -9,10 +9,9 @@ use lib.Ieee.{Float, nan, binary64}
 use Rattle.refusal.specs.Numbers.{refuse}
 use Rattle.refusal.specs.declared.Answer.{Answer}
 use Rattle.refusal.specs.declared.Refusal.the-variants.{Size, Length, Love, Space}
-use Rattle.number.specs.Float64.{_⊗_, _⊘_, ofWhole}
+use Rattle.number.specs.Float64.{_⊗_, _⊘_, ofWhole, two64}
 use Rattle.storage.specs.Checks.{spaceCheck}
 use Rattle.storage.specs.Triangle.{tableSize}
-use Rattle.recursion.specs.Recursion.{two64}
 use Rattle.legendre.specs.Directions.{legendreRow}
 use Rattle.rounding.specs.Sums.{zero⁺, runningSum}
 use Rattle.legendre_analysis.specs.Division.{divided}

@@ -6,11 +6,11 @@ use native.Mathlib.Nat.{le-refl, zero-add}
 use native.Mathlib.Omega.{arith}
 use lib.ListN.{length, getD}
 use lib.Ieee.{Float, nan, binary64, ofBits}
-use Rattle.number.specs.Float64.{_⊕_, _⊗_, _⊘_, ofWhole}
+use Rattle.number.specs.Float64.{_⊕_, _⊗_, _⊘_, ofWhole, two64}
 use Rattle.storage.specs.Elements.{zeroAt, from}
 use Rattle.storage.specs.Filled.{Filled, filled-same, filled-again}
 use Rattle.storage.specs.Triangle.{idx, tableSize, along, along-same, rows-at, idx-within}
-use Rattle.recursion.specs.Recursion.{two64, pCell}
+use Rattle.recursion.specs.Recursion.{pCell}
 use Rattle.legendre.specs.Directions.{rowSine, rowCosine}
 use Rattle.rounding.specs.Sums.{zero⁺}
 use Rattle.rounding.specs.SumSteps.{running-none, running-more, running-same}

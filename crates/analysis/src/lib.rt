@@ -1,6 +1,6 @@
 // The coefficients of a field from the values of a functional on a grid: Gauss–Legendre quadrature over the latitudes, a plain sum over the longitudes.
-pub mod rows;
-pub mod workspace;
+mod rows;
+mod workspace;
 
 use coefficients::Head;
 use coefficients::Model;

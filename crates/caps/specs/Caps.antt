@@ -6,10 +6,9 @@ use Prim.Native.Nat.{ℕ, _+_, _-_}
 use lib.Dec.{eqb}
 use lib.ListN.{getD}
 use lib.Ieee.{Float, nan, binary64, neg}
-use Rattle.number.specs.Float64.{_⊕_, _⊖_, _⊗_, _⊘_, double, ofWhole, zero64, one64}
+use Rattle.number.specs.Float64.{_⊕_, _⊖_, _⊗_, _⊘_, double, ofWhole, zero64, one64, two64, three64}
 use Rattle.number.specs.Root.{rootOf}
 use Rattle.rounding.specs.Sums.{zero⁺, runningSum}
-use Rattle.recursion.specs.Recursion.{two64, three64}
 use Rattle.legendre.specs.Directions.{legendreRow}
 use Rattle.matrix.specs.Matrix.{cell, matrixOf}
 

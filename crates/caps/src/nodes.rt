@@ -1,4 +1,5 @@
 // The concentration matrix of one order, node by node: it stands in a run of the working list behind the tables of the recursion.
+use legendre::Latitude;
 ghost use mathlib.Core.Path.{_≡_};
 ghost use Prim.Native.Nat.{ℕ, _+_, _*_, _≤_, _<_};
 ghost use lib.ListN.{length, getD};
@@ -23,14 +24,15 @@ pub fn factor(m: usize, x0: f64) -> f64
     0.25 * (1.0 - x0) / 2.0
 }
 
-// y times the column, added to the k numbers from index `at` on.
-pub fn add_row(k: usize, at: usize, y: f64, col: &[f64], work: &mut [f64])
+// x p times the column, added to the k numbers from index `at` on. The order of the three factors is the Rust's: a row times a column has other bits
+// than the column times the row.
+pub fn add_row(k: usize, at: usize, x: f64, p: f64, col: &[f64], work: &mut [f64])
     requires { ⌜ k ≤ length (now col) ⌝ ∗ ⌜ at + k ≤ length (now work) ⌝ }
-    ensures { λ _. ⌜ Filled at (addedCell y (now (col .entry)) (now (work .entry)) at) k (now (work .entry)) (now (work .exit)) ⌝ }
+    ensures { λ _. ⌜ Filled at (addedCell (x ⊗ p) (now (col .entry)) (now (work .entry)) at) k (now (work .entry)) (now (work .exit)) ⌝ }
 {
     let mut j = 0;
     while j < k {
-        work[at + j] = work[at + j] + y * col[j];
+        work[at + j] = work[at + j] + x * p * col[j];
         j = j + 1;
     }
 }
@@ -43,7 +45,7 @@ fn add_node(k: usize, at: usize, x: f64, col: &[f64], work: &mut [f64])
     let mut row = at;
     let mut i = 0;
     while i < k {
-        add_row(k, row, x * col[i], col, work);
+        add_row(k, row, x, col[i], col, work);
         row = row + k;
         i = i + 1;
     }
@@ -56,7 +58,7 @@ fn node(
     start: usize,
     total: usize,
     at: usize,
-    t: f64,
+    latitude: Latitude,
     rescale: f64,
     sectoral: f64,
     x: f64,
@@ -64,10 +66,10 @@ fn node(
     work: &mut [f64],
 )
     requires { ⌜ sectoral ≡ pmm m ⌝ ∗ ⌜ start ≡ idx m m ⌝ ∗ ⌜ NodeRoom m k total at (length (now col)) (length (now work)) ⌝ }
-    ensures { λ _. ⌜ Filled at (byRows (addedBy k total t rescale m x (now (work .entry)) at) k) (k * k) (now (work .entry)) (now (work .exit)) ⌝
+    ensures { λ _. ⌜ Filled at (byRows (addedBy k total (latitude .t) rescale m x (now (work .entry)) at) k) (k * k) (now (work .entry)) (now (work .exit)) ⌝
         ∗ ⌜ length (now (col .exit)) ≡ length (now (col .entry)) ⌝ }
 {
-    crate::columns::column(m, k, start, total, t, rescale, sectoral, work, col);
+    crate::columns::column(m, k, start, total, latitude.t, rescale, sectoral, work, col);
     add_node(k, at, x, col, work);
 }
 
@@ -99,7 +101,7 @@ pub fn concentration(
     clear(k, at, work);
     let mut i = 0;
     while i <= lmax {
-        let t = latitudes[i + i];
+        let latitude = legendre::directions::latitude_of(i, latitudes);
         let x = factor * weights[i];
         node(
             m,
@@ -107,7 +109,7 @@ pub fn concentration(
             start,
             total,
             at,
-            t,
+            latitude,
             rescales[i],
             sectoral,
             x,
@@ -145,7 +147,8 @@ pub fn next_rescales(count: usize, latitudes: &[f64], rescales: &mut [f64])
 {
     let mut i = 0;
     while i < count {
-        rescales[i] = rescales[i] * latitudes[i + i + 1];
+        let latitude = legendre::directions::latitude_of(i, latitudes);
+        rescales[i] = rescales[i] * latitude.u;
         i = i + 1;
     }
 }

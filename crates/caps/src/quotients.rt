@@ -16,7 +16,7 @@ fn product_row(k: usize, row: usize, work: &[f64], vectors: &[f64], y: &mut [f64
     let mut at = 0;
     let mut j = 0;
     while j < k {
-        crate::nodes::add_row(k, 0, work[row + j], &vectors[at..], y);
+        crate::nodes::add_row(k, 0, work[row + j], 1.0, &vectors[at..], y);
         at = at + k;
         j = j + 1;
     }

@@ -1,6 +1,9 @@
 -- Document 01's numbers of a tide system and of an answer that makes a field. Assumes nothing.
-use mathlib.Core.Path.{_≡_, ap}
-use Prim.Native.Nat.{ℕ}
+use mathlib.Core.Path.{_≡_, refl, ap}
+use mathlib.Core.Bool.{cond}
+use Prim.Native.Nat.{ℕ, zero, suc, _≤_}
+use native.Mathlib.Omega.{arith}
+use lib.Dec.{eqb}
 use Rattle.refusal.specs.Numbers.{answerNumber}
 use Rattle.refusal.specs.declared.Refusal.{Refusal}
 use Rattle.refusal.specs.declared.Answer.{Answer}
@@ -12,12 +15,38 @@ use Rattle.coefficients.specs.declared.Model.the-variants.{Made, Refused
 use Rattle.coefficients.specs.declared.TideSystem.{TideSystem}
 use Rattle.coefficients.specs.declared.TideSystem.the-variants.{TideFree, ZeroTide, MeanTide, Unknown}
 
--- the number of a tide system in a model file
+-- ---- the number of a tide system, in a model file and at the entries for C
 abbrev pub tideNumber : TideSystem → ℕ
 tideNumber TideFree = 0
 tideNumber ZeroTide = 1
 tideNumber MeanTide = 2
 tideNumber Unknown = 3
+
+-- the tide system of a number; those above 3 are refused before it is asked
+abbrev pub tideOf : ℕ → TideSystem
+tideOf b = cond (eqb b 0) TideFree (cond (eqb b 1) ZeroTide (cond (eqb b 2) MeanTide Unknown))
+
+pub tide-small : (t : TideSystem) → tideNumber t ≤ 3
+tide-small TideFree = omega arith
+tide-small ZeroTide = omega arith
+tide-small MeanTide = omega arith
+tide-small Unknown = omega arith
+
+-- they undo each other
+pub tide-back : (t : TideSystem) → tideOf (tideNumber t) ≡ t
+tide-back TideFree = refl
+tide-back ZeroTide = refl
+tide-back MeanTide = refl
+tide-back Unknown = refl
+
+pub tide-forth : (b : ℕ) → b ≤ 3 → tideNumber (tideOf b) ≡ b
+tide-forth zero h = refl
+tide-forth (suc zero) h = refl
+tide-forth (suc (suc zero)) h = refl
+tide-forth (suc (suc (suc zero))) h = refl
+tide-forth (suc (suc (suc (suc b)))) h = absurd (omega arith)
+
+-- ---- an answer that makes a field
 
 -- whether a field was made, or why not
 abbrev pub outcome : Model → Answer

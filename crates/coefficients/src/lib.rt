@@ -17,7 +17,7 @@ ghost use Rattle.number.specs.Float64.{_⊘_};
 ghost use Rattle.storage.specs.Elements.{zeroAt, from};
 ghost use Rattle.storage.specs.Fill.{fill};
 ghost use Rattle.storage.specs.Triangle.{idx, tableSize, along};
-ghost use Rattle.coefficients.specs.Model.{tideNumber, outcome, modelNumber, modelOf};
+ghost use Rattle.coefficients.specs.Model.{tideNumber, tideOf, outcome, modelNumber, modelOf};
 ghost use Rattle.storage.specs.Checks.{roomCheck, entryAnswer, outputsCheck};
 ghost use Rattle.coefficients.specs.Checks.{setCheck, variancesCheck, amplitudesCheck};
 ghost use Rattle.coefficients.specs.Values.{zeroHead, cutHead, rescaledHead, rescaledEntry, varianceOf, amplitudeOf};
@@ -61,6 +61,21 @@ pub fn tide_number(t: TideSystem) -> u32
         TideSystem::ZeroTide => 1,
         TideSystem::MeanTide => 2,
         TideSystem::Unknown => 3,
+    }
+}
+
+// The tide system of a number; Unknown for one above 3, which every call refuses before it asks.
+pub fn tide_of(number: u32) -> TideSystem
+    ensures { λ r. ⌜ r ≡ tideOf number ⌝ }
+{
+    if number == 0 {
+        TideSystem::TideFree
+    } else if number == 1 {
+        TideSystem::ZeroTide
+    } else if number == 2 {
+        TideSystem::MeanTide
+    } else {
+        TideSystem::Unknown
     }
 }
 

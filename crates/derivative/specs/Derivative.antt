@@ -12,7 +12,7 @@ use lib.ListN.{length, getD}
 use lib.Ieee.{Float, nan, binary64, neg}
 use lib.Ieee.Fits.{mul-fits}
 use borrow.Author.Tests.{lt-ltb, le-ltb, eq-eqb, ne-eqb}
-use Rattle.number.specs.Float64.{_⊕_, _⊖_, _⊗_, _⊘_, double, ofWhole, zero64, one64}
+use Rattle.number.specs.Float64.{_⊕_, _⊖_, _⊗_, _⊘_, double, ofWhole, zero64, one64, two64}
 use Rattle.number.specs.Identities.{one-times, product-comm}
 use Rattle.number.specs.Root.{rootOf}
 use Rattle.number.specs.RootLaws.{root-fits}
@@ -20,7 +20,7 @@ use Rattle.number.specs.Whole.{whole-sum, whole-difference, whole-next, whole-o
 use Rattle.storage.specs.Elements.{from}
 use Rattle.storage.specs.Filled.{Filled, filled-same, filled-in}
 use Rattle.storage.specs.Triangle.{rowStart, cells, tableSize, along, along-same, rows-at, idx-within}
-use Rattle.recursion.specs.Recursion.{two64, pCell}
+use Rattle.recursion.specs.Recursion.{pCell}
 
 abbrev pub half64 : Float
 half64 = double 0x3fe0_0000_0000_0000

@@ -7,6 +7,7 @@ use lib.ListN.{length, getD, set}
 use lib.Ieee.{Float, nan, binary64}
 use Rattle.number.specs.Float64.{_⊕_, _⊗_}
 use Rattle.storage.specs.Filled.{Filled, filled-more, filled-to}
+use Rattle.storage.specs.Lanes.{lane}
 use Rattle.storage.specs.Rectangle.{byRows, by-row, by-rows-at}
 use Rattle.rounding.specs.Sums.{zero⁺, runningSum}
 use Rattle.rounding.specs.SumSteps.{running-none, running-more}
@@ -91,17 +92,6 @@ pub record FourOrders (values trig : List Float) (at k stride j : ℕ) (a b c d 
   pub of-f : f ≡ sumFrom values trig at (k + stride + stride + 1) j
   pub of-g : g ≡ sumFrom values trig at (k + stride + stride + stride) j
   pub of-h : h ≡ sumFrom values trig at (k + stride + stride + stride + 1) j
-
--- the first, the second, .. of eight numbers
-unfoldable pub lane : (a b c d e f g h : Float) → ℕ → Float
-lane a b c d e f g h zero = a
-lane a b c d e f g h (suc zero) = b
-lane a b c d e f g h (suc (suc zero)) = c
-lane a b c d e f g h (suc (suc (suc zero))) = d
-lane a b c d e f g h (suc (suc (suc (suc zero)))) = e
-lane a b c d e f g h (suc (suc (suc (suc (suc zero))))) = f
-lane a b c d e f g h (suc (suc (suc (suc (suc (suc zero)))))) = g
-lane a b c d e f g h (suc (suc (suc (suc (suc (suc (suc i))))))) = h
 
 module _ (values trig : List Float) where
   pub four-none : (at k stride : ℕ) → FourOrders values trig at k stride 0 zero⁺ zero⁺ zero⁺ zero⁺ zero⁺ zero⁺ zero⁺ zero⁺

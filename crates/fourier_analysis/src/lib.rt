@@ -1,28 +1,17 @@
 // The sums over the longitudes of one row: for each order m the row's values times the cosines of m times the longitude and times the sines, the
 // pairs of these sums order after order. Each sum is one chain of additions; four orders at a time keep eight chains going side by side.
+use storage::Eight;
 ghost use mathlib.Core.Path.{_≡_};
 ghost use Prim.Native.Nat.{_+_, _*_, _≤_, _<_};
 ghost use lib.ListN.{length};
 ghost use Rattle.storage.specs.Filled.{Filled};
 ghost use Rattle.storage.specs.Rectangle.{byRows};
-ghost use Rattle.fourier_analysis.specs.Longitudes.{sumFrom, pairFrom, FourOrders, lane};
+ghost use Rattle.fourier_analysis.specs.Longitudes.{sumFrom, pairFrom, FourOrders};
 
 // The two sums of one order: a with the cosines, b with the sines.
 pub struct OrderSums {
     pub a: f64,
     pub b: f64,
-}
-
-// The sums of four orders that follow each other: a, c, e, g with the cosines, b, d, f, h with the sines.
-pub struct FourSums {
-    pub a: f64,
-    pub b: f64,
-    pub c: f64,
-    pub d: f64,
-    pub e: f64,
-    pub f: f64,
-    pub g: f64,
-    pub h: f64,
 }
 
 // The sums of the order whose pairs of a cosine and a sine start at index k; the row's values start at index `at`.
@@ -45,7 +34,7 @@ fn one_order(longitudes: usize, at: usize, k: usize, values: &[f64], trig: &[f64
     OrderSums { a, b }
 }
 
-// The sums of four orders; the pairs of the first start at index k, those of each other `stride` past those before.
+// The sums of four orders, a, c, e, g with the cosines and b, d, f, h with the sines; the pairs of the first start at index k, those of each other `stride` past those before.
 fn four_orders(
     longitudes: usize,
     at: usize,
@@ -53,7 +42,7 @@ fn four_orders(
     stride: usize,
     values: &[f64],
     trig: &[f64],
-) -> FourSums
+) -> Eight
     requires { ⌜ at + longitudes ≤ length (now values) ⌝ ∗ ⌜ k + stride + stride + stride + (longitudes + longitudes) ≤ length (now trig) ⌝ }
     ensures { λ r. ⌜ FourOrders (now (values .entry)) (now (trig .entry)) at k stride longitudes
         (r .a) (r .b) (r .c) (r .d) (r .e) (r .f) (r .g) (r .h) ⌝ }
@@ -87,7 +76,7 @@ fn four_orders(
         h = h + value * trig[kh + pair];
         j = j + 1;
     }
-    FourSums {
+    Eight {
         a,
         b,
         c,
@@ -97,21 +86,6 @@ fn four_orders(
         g,
         h,
     }
-}
-
-// Four pairs of sums, stored from index `at` on.
-fn store_four(at: usize, v: FourSums, out: &mut [f64])
-    requires { ⌜ at + 8 ≤ length (now out) ⌝ }
-    ensures { λ _. ⌜ Filled at (lane (v .a) (v .b) (v .c) (v .d) (v .e) (v .f) (v .g) (v .h)) 8 (now (out .entry)) (now (out .exit)) ⌝ }
-{
-    out[at] = v.a;
-    out[at + 1] = v.b;
-    out[at + 2] = v.c;
-    out[at + 3] = v.d;
-    out[at + 4] = v.e;
-    out[at + 5] = v.f;
-    out[at + 6] = v.g;
-    out[at + 7] = v.h;
 }
 
 // The sums of the orders from the first on, four at a time, and how many those are.
@@ -134,7 +108,7 @@ fn by_fours(
     let mut k = 0;
     while count - m >= 4 {
         let v = four_orders(longitudes, at, k, stride, values, trig);
-        store_four(m + m, v, sums);
+        storage::store_eight(m + m, v, sums);
         m = m + 4;
         k = k + 4 * stride;
     }

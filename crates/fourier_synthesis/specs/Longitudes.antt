@@ -6,6 +6,7 @@ use native.Mathlib.Omega.{arith}
 use lib.ListN.{getD}
 use lib.Ieee.{Float, nan, binary64}
 use Rattle.number.specs.Float64.{_⊕_, _⊗_}
+use Rattle.storage.specs.Lanes.{lane}
 use Rattle.rounding.specs.Sums.{zero⁺, runningSum}
 use Rattle.rounding.specs.SumSteps.{running-none, running-more}
 use Rattle.legendre.specs.Directions.{cosines, sines}
@@ -51,17 +52,6 @@ pub record EightPoints (x y trig : List Float) (k stride m : ℕ) (a b c d e f g
   pub of-f : f ≡ ordersBelow x y trig (k + stride + stride + stride + stride + stride) m
   pub of-g : g ≡ ordersBelow x y trig (k + stride + stride + stride + stride + stride + stride) m
   pub of-h : h ≡ ordersBelow x y trig (k + stride + stride + stride + stride + stride + stride + stride) m
-
--- the first, the second, .. of eight numbers
-unfoldable pub lane : (a b c d e f g h : Float) → ℕ → Float
-lane a b c d e f g h zero = a
-lane a b c d e f g h (suc zero) = b
-lane a b c d e f g h (suc (suc zero)) = c
-lane a b c d e f g h (suc (suc (suc zero))) = d
-lane a b c d e f g h (suc (suc (suc (suc zero)))) = e
-lane a b c d e f g h (suc (suc (suc (suc (suc zero))))) = f
-lane a b c d e f g h (suc (suc (suc (suc (suc (suc zero)))))) = g
-lane a b c d e f g h (suc (suc (suc (suc (suc (suc (suc i))))))) = h
 
 module _ (x y trig : List Float) where
   -- one more order at one longitude

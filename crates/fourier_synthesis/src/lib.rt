@@ -1,22 +1,11 @@
 // The values along one row of a grid, from its lumped coefficients: x[m] goes with the cosine of m times the longitude, y[m] with the sine. Each value
 // is one chain of additions over the orders; eight longitudes at a time keep eight chains going side by side.
+use storage::Eight;
 ghost use mathlib.Core.Path.{_≡_};
 ghost use Prim.Native.Nat.{ℕ, _+_, _-_, _*_, _≤_, _<_};
 ghost use lib.ListN.{length};
 ghost use Rattle.storage.specs.Filled.{Filled};
-ghost use Rattle.fourier_synthesis.specs.Longitudes.{pointFrom, pointAt, pointAfter, EightPoints, lane};
-
-// The values at eight longitudes that follow each other.
-pub struct Eight {
-    pub a: f64,
-    pub b: f64,
-    pub c: f64,
-    pub d: f64,
-    pub e: f64,
-    pub f: f64,
-    pub g: f64,
-    pub h: f64,
-}
+ghost use Rattle.fourier_synthesis.specs.Longitudes.{pointFrom, pointAt, pointAfter, EightPoints};
 
 // The value at the longitude whose cosines and sines start at index k.
 fn point(nmax: usize, k: usize, x: &[f64], y: &[f64], trig: &[f64]) -> f64
@@ -86,21 +75,6 @@ fn eight_points(nmax: usize, k: usize, stride: usize, x: &[f64], y: &[f64], trig
     }
 }
 
-// Eight values, stored from index `at` on.
-fn store_eight(at: usize, v: Eight, out: &mut [f64])
-    requires { ⌜ at + 8 ≤ length (now out) ⌝ }
-    ensures { λ _. ⌜ Filled at (lane (v .a) (v .b) (v .c) (v .d) (v .e) (v .f) (v .g) (v .h)) 8 (now (out .entry)) (now (out .exit)) ⌝ }
-{
-    out[at] = v.a;
-    out[at + 1] = v.b;
-    out[at + 2] = v.c;
-    out[at + 3] = v.d;
-    out[at + 4] = v.e;
-    out[at + 5] = v.f;
-    out[at + 6] = v.g;
-    out[at + 7] = v.h;
-}
-
 // The values at the longitudes from the first on, eight at a time, and how many those are.
 fn points_eight(
     nmax: usize,
@@ -121,7 +95,7 @@ fn points_eight(
     let mut k = 0;
     while longitudes - j >= 8 {
         let v = eight_points(nmax, k, stride, x, y, trig);
-        store_eight(at + j, v, out);
+        storage::store_eight(at + j, v, out);
         j = j + 8;
         k = k + 8 * stride;
     }

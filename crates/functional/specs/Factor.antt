@@ -8,20 +8,13 @@ use lib.ListN.{length, getD}
 use lib.Ieee.{Float, nan, binary64, fits}
 use lib.Ieee.Fits.{mul-fits, div-fits}
 use borrow.Author.Tests.{lt-ltb, le-ltb}
-use Rattle.number.specs.Float64.{_⊕_, _⊖_, _⊗_, _⊘_, double, ofWhole, one64}
+use Rattle.number.specs.Float64.{_⊕_, _⊖_, _⊗_, _⊘_, double, ofWhole, one64, two64, three64}
 use Rattle.number.specs.Power.{powerOf}
 use Rattle.refusal.specs.declared.Number.{Number}
 use Rattle.refusal.specs.declared.Number.the-variants.{Value, Refused}
 use Rattle.refusal.specs.declared.Refusal.the-variants.{Size, Love}
 use Rattle.functional.specs.declared.Functional.{Functional}
 use Rattle.functional.specs.declared.Functional.the-variants.{Potential, GeoidHeight, GravityDisturbance, GravityAnomaly, RadialGradient, WaterHeight}
-
--- 2 and 3
-abbrev two64 : Float
-two64 = double 0x4000_0000_0000_0000
-
-abbrev three64 : Float
-three64 = double 0x4008_0000_0000_0000
 
 -- the mean density of the Earth, 5517, and the density of water, 1000, in kg/m³
 abbrev rhoEarth : Float

@@ -1,2 +1,3 @@
 pub mod Factor
 pub mod GravityAnomaly
+pub mod Stored

@@ -3,8 +3,7 @@ use refusal::Number;
 use refusal::Refusal;
 ghost use mathlib.Core.Path.{_≡_};
 ghost use Prim.Native.Nat.{ℕ, _+_, _≤_, _<_};
-ghost use lib.ListN.{length, getD};
-ghost use lib.Ieee.{nan};
+ghost use lib.ListN.{length};
 ghost use Rattle.storage.specs.Filled.{Filled};
 ghost use Rattle.functional.specs.Factor.{factorOf, lacksLove, factorAnswer};
 
@@ -31,13 +30,6 @@ pub enum Functional {
     WaterHeight,
 }
 
-// The load Love number k'(n), and NaN past the end of the list.
-fn love_number(love: &[f64], n: usize) -> f64
-    ensures { λ x. ⌜ x ≡ getD (now (love .entry)) n nan ⌝ }
-{
-    if n < love.len() { love[n] } else { 0.0 / 0.0 }
-}
-
 impl Functional {
     // The factor of degree n, for loops that have made the checks of `factor` before them: a Love number that the list has not is NaN.
     pub fn degree_factor(self, love: &[f64], n: usize, gm: f64, radius: f64, r: f64) -> f64
@@ -57,7 +49,7 @@ impl Functional {
             }
             Functional::WaterHeight => {
                 radius * RHO_EARTH / (3.0 * RHO_WATER) * (2.0 * nf + 1.0)
-                    / (1.0 + love_number(love, n))
+                    / (1.0 + number::element_or_nan(love, n))
             }
         }
     }

@@ -18,7 +18,7 @@ use Rattle.coefficients.specs.Model.{outcome, modelOf, modelNumber}
 use Rattle.coefficients.specs.declared.Head.{Head}
 use Rattle.coefficients.specs.declared.Model.{Model}
 use Rattle.analysis.specs.Analysis.{analysisCell, analysisCheck}
-use Rattle.geopotential.specs.Functionals.{functionalOf}
+use Rattle.geopotential.specs.Functionals.{functionalOf, noFunctional}
 
 module _ (k : ℕ) (love : List Float) (nmax : ℕ) (values weights lats trig work c s : List Float) where
   -- the call's checks, with the functional f
@@ -28,7 +28,7 @@ module _ (k : ℕ) (love : List Float) (nmax : ℕ) (values weights lats trig wo
 
   -- 255 for a functional above 5, before every check
   unfoldable pub analysisNumber : ℕ
-  analysisNumber = cond (ltb 5 k) 255 (answerNumber (analysisAnswer (functionalOf k)))
+  analysisNumber = cond (ltb 5 k) noFunctional (answerNumber (analysisAnswer (functionalOf k)))
 
   -- an output list afterwards, by the sums that belong to it
   unfoldable pub analysisAfter : (gm radius r : Float) → (ℕ → ℕ → Float) → List Float → List Float
@@ -43,9 +43,10 @@ module _ (k : ℕ) (love : List Float) (nmax : ℕ) (values weights lats trig wo
 
   pub analysis-unknown : (gm radius r : Float) (a b : ℕ → ℕ → Float) → 5 < k
       → (255 ≡ analysisNumber)
-      × ((c ≡ analysisAfter gm radius r a c) × ((s ≡ analysisAfter gm radius r b s) × (analysisKeeps work ≡ analysisKeeps work)))
+      × ((c ≡ analysisAfter gm radius r a c)
+      × ((s ≡ analysisAfter gm radius r b s) × ((analysisKeeps work ≡ analysisKeeps work) × (length work ≡ length work))))
   unfolding analysisNumber analysisAfter
-  analysis-unknown gm radius r a b h = (simp (lt-ltb 5 k h), (simp (lt-ltb 5 k h), (simp (lt-ltb 5 k h), refl)))
+  analysis-unknown gm radius r a b h = (simp (lt-ltb 5 k h), (simp (lt-ltb 5 k h), (simp (lt-ltb 5 k h), (refl, refl))))
 
   -- where a model is made, its outcome is that of the checks
   outcome-made : (a : Answer) (h : Head) → outcome (modelOf a h) ≡ a
@@ -56,11 +57,12 @@ module _ (k : ℕ) (love : List Float) (nmax : ℕ) (values weights lats trig wo
       → f ≡ functionalOf k → x ≡ modelOf (analysisAnswer f) h → n ≡ modelNumber x
       → c′ ≡ after (outcome x) (fill 0 (along (analysisCell (factorOf f love gm radius r) weights lats a nmax)) (tableSize nmax) c) c
       → s′ ≡ after (outcome x) (fill 0 (along (analysisCell (factorOf f love gm radius r) weights lats b nmax)) (tableSize nmax) s) s
-      → behind (outcome x) (3 * tableSize nmax) w ≡ behind (outcome x) (3 * tableSize nmax) work
+      → behind (outcome x) (3 * tableSize nmax) w ≡ behind (outcome x) (3 * tableSize nmax) work → length w ≡ length work
       → (n ≡ analysisNumber)
-      × ((c′ ≡ analysisAfter gm radius r a c) × ((s′ ≡ analysisAfter gm radius r b s) × (analysisKeeps w ≡ analysisKeeps work)))
+      × ((c′ ≡ analysisAfter gm radius r a c)
+      × ((s′ ≡ analysisAfter gm radius r b s) × ((analysisKeeps w ≡ analysisKeeps work) × (length w ≡ length work))))
   unfolding analysisNumber analysisAfter analysisKeeps
-  analysis-known {f} {x} w gm radius r a b h g p q u y z v =
+  analysis-known {f} {x} w gm radius r a b h g p q u y z v l =
       let o : outcome x ≡ analysisAnswer (functionalOf k) = ap outcome q ∙ outcome-made (analysisAnswer f) h ∙ ap analysisAnswer p in
       let le = le-ltb 5 k g in
-      (u ∙ simp (le, o), (y ∙ simp (le, o, p), (z ∙ simp (le, o, p), simp (le, ← o) v)))
+      (u ∙ simp (le, o), (y ∙ simp (le, o, p), (z ∙ simp (le, o, p), (simp (le, ← o) v, l))))

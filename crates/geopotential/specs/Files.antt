@@ -11,15 +11,15 @@ use Rattle.refusal.specs.Numbers.{after, answerNumber, refusalNumber, refuse}
 use Rattle.refusal.specs.declared.Answer.{Answer}
 use Rattle.refusal.specs.declared.Answer.the-variants.{Done, Refused}
 use Rattle.refusal.specs.declared.Refusal.{Refusal}
-use Rattle.refusal.specs.declared.Refusal.the-variants.{Space}
+use Rattle.refusal.specs.declared.Refusal.the-variants.{Space, Tide}
 use Rattle.storage.specs.Store.{store}
-use Rattle.coefficients.specs.Model.{tideNumber}
+use Rattle.coefficients.specs.Model.{tideNumber, tideOf}
 use Rattle.model_file.specs.declared.FileHead.{FileHead}
 use Rattle.model_file.specs.declared.Reading.{Reading}
 use Rattle.model_file.specs.declared.Reading.the-variants.{Model}
 use Rattle.model_file.specs.declared.Reading.the-variants.{Refused as Unread}
-use Rattle.model_file.specs.Format.{Parsed, model, fault, tideOf, render, refuseReading}
-use Rattle.model_file.specs.Answers.{verdictOf, readAnswer, afterRead, writeAnswer}
+use Rattle.model_file.specs.Format.{Parsed, model, fault, render, refuseReading}
+use Rattle.model_file.specs.Answers.{verdictOf, readAnswer, writeAnswer}
 
 -- the four words of a head
 abbrev pub headWords : FileHead → List ℕ
@@ -36,7 +36,7 @@ modelRead (fault e) lc ls lh = Refused e
 
 -- a file that is accepted, with a list for its head that is too short
 abbrev pub orSpace : Answer → ℕ
-orSpace Done = 3
+orSpace Done = refusalNumber Space
 orSpace (Refused e) = refusalNumber e
 
 pub words-stored : (h : FileHead) (t : ℕ) (d : List ℕ) → t ≡ tideNumber (h .tide)
@@ -84,7 +84,7 @@ abbrev pub headOfWords : ℕ → ℕ → ℕ → ℕ → FileHead
 headOfWords gm radius tide nmax = record { gm = gm; radius = radius; tide = tideOf tide; nmax = nmax }
 
 unfoldable pub modelWriteNumber : ℕ → ℕ → List ℕ → List ℕ → List ℕ → ℕ
-modelWriteNumber tide nmax c s out = cond (ltb 3 tide) 9 (answerNumber (writeAnswer nmax (length c) (length s) (length out)))
+modelWriteNumber tide nmax c s out = cond (ltb 3 tide) (refusalNumber Tide) (answerNumber (writeAnswer nmax (length c) (length s) (length out)))
 
 unfoldable pub modelWriteAfter : ℕ → ℕ → ℕ → ℕ → List ℕ → List ℕ → List ℕ → List ℕ
 modelWriteAfter gm radius tide nmax c s out =

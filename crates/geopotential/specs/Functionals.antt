@@ -32,9 +32,13 @@ functional-other k h =
       ne-eqb k 4 (λ e. omega arith),
     )
 
--- 255 for a number above 5, before every check
+-- the number by which an entry refuses a functional that is none; document 01 has no such refusal
+abbrev pub noFunctional : ℕ
+noFunctional = 255
+
+-- a number above 5, before every check
 unfoldable pub factorNumber : ℕ → List Float → ℕ → Float → Float → Float → ℕ
-factorNumber k love n gm radius r = cond (ltb 5 k) 255 (valueNumber (factorAnswer (functionalOf k) love n gm radius r))
+factorNumber k love n gm radius r = cond (ltb 5 k) noFunctional (valueNumber (factorAnswer (functionalOf k) love n gm radius r))
 
 unfoldable pub factorAfter : ℕ → List Float → ℕ → Float → Float → Float → Float → Float
 factorAfter k love n gm radius r old = cond (ltb 5 k) old (valueAfter (factorAnswer (functionalOf k) love n gm radius r) old)

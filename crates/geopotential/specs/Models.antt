@@ -20,7 +20,7 @@ use Rattle.coefficients.specs.Model.{outcome, modelOf}
 use Rattle.storage.specs.Checks.{outputsCheck}
 use Rattle.coefficients.specs.Checks.{amplitudesCheck}
 use Rattle.coefficients.specs.Values.{amplitudeOf}
-use Rattle.geopotential.specs.Functionals.{functionalOf}
+use Rattle.geopotential.specs.Functionals.{functionalOf, noFunctional}
 
 -- the checks of `truncated` and of `rescaled`
 abbrev pub cutCheck : ℕ → List Float → List Float → ℕ → List Float → List Float → Answer
@@ -32,7 +32,7 @@ sameCheck nmax c s outc outs = outputsCheck nmax (length c) (length s) nmax (len
 -- `degree_amplitudes`: 255 for a functional above 5, before every check
 unfoldable pub amplitudesNumber : ℕ → List Float → List Float → ℕ → List Float → List Float → ℕ
 amplitudesNumber nmax c s k love out =
-    cond (ltb 5 k) 255 (answerNumber (amplitudesCheck nmax (length c) (length s) (functionalOf k) (length love) (length out)))
+    cond (ltb 5 k) noFunctional (answerNumber (amplitudesCheck nmax (length c) (length s) (functionalOf k) (length love) (length out)))
 
 unfoldable pub amplitudesAfter : Float → Float → ℕ → List Float → List Float → ℕ → List Float → List Float → List Float
 amplitudesAfter gm radius nmax c s k love out =

@@ -1,5 +1,6 @@
 // The call of the crate analysis: the coefficients of a grid's values.
 ghost use mathlib.Core.Path.{_≡_};
+ghost use lib.ListN.{length};
 ghost use Rattle.geopotential.specs.Analyses.{analysisNumber, analysisAfter, analysisKeeps};
 ghost use Rattle.analysis.specs.Analysis.{cosineSum, sineSum};
 
@@ -32,6 +33,7 @@ pub extern "C" fn geopotential_analysis(
         (now (trig .entry)) (now (work .entry)) (now (c .entry)) (now (s .entry)) (now (work .exit))
         ≡ analysisKeeps functional (now (love .entry)) nmax (now (values .entry)) (now (weights .entry)) (now (latitudes .entry))
         (now (trig .entry)) (now (work .entry)) (now (c .entry)) (now (s .entry)) (now (work .entry)) ⌝ }
+    ensures { λ x. ⌜ length (now (work .exit)) ≡ length (now (work .entry)) ⌝ }
 {
     if functional > 5 {
         return 255;

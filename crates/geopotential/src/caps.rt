@@ -45,6 +45,7 @@ pub extern "C" fn geopotential_polar_cap(
         (capCheck lmax (length (now (weights .entry))) (length (now (latitudes .entry))) (length (now (work .entry)))
         (length (now (orders .entry))) (length (now (concentrations .entry))) (length (now (vectors .entry))))
         (capWork lmax) (now (work .entry)) ⌝ }
+    ensures { λ x. ⌜ length (now (work .exit)) ≡ length (now (work .entry)) ⌝ }
 {
     refusal::answer_number(polar_cap::polar_cap(
         lmax,

@@ -2,6 +2,18 @@
 use coefficients::Head;
 use coefficients::TideSystem;
 ghost use mathlib.Core.Path.{_≡_};
+ghost use mathlib.Core.Bool.{Bool};
+ghost use Prim.Native.Nat.{ℕ, _+_, _*_, _<_, min};
+ghost use lib.Dec.{T};
+ghost use lib.ListN.{length, getD};
+ghost use lib.Ieee.{nan};
+ghost use lib.Ieee.Scale.{finite};
+ghost use Rattle.storage.specs.Triangle.{cells};
+ghost use Rattle.legendre.specs.Directions.{cosines, sines, legendreRow};
+ghost use Rattle.functional.specs.Factor.{factorOf};
+ghost use Rattle.rounding.specs.Margins.{AtMostOne, AverageWithin, GridWithin};
+ghost use Rattle.synthesis.specs.Grid.{SizesAtMostOne};
+ghost use Rattle.geopotential.specs.Functionals.{functionalOf};
 ghost use Rattle.geopotential.specs.Fields.{basinNumber, basinAfter, gridNumber, gridAfter, gridKeeps};
 
 // A functional above 5 is refused by 255, before every check.
@@ -30,6 +42,14 @@ pub extern "C" fn geopotential_grid(
         longitudes (now (trig .entry)) (now (work .entry)) (now (out .entry)) (now (work .exit))
         ≡ gridKeeps functional nmax (now (c .entry)) (now (s .entry)) (now (love .entry)) rows (now (latitudes .entry))
         longitudes (now (trig .entry)) (now (work .entry)) (now (out .entry)) (now (work .entry)) ⌝ }
+    ensures { λ x. ⌜ length (now (work .exit)) ≡ length (now (work .entry)) ⌝ }
+    ensures { λ x. ⌜ ((i j : ℕ) → x ≡ 0 → i < rows → j < longitudes → T (finite (getD (now (out .exit)) (i * longitudes + j) nan))
+        → SizesAtMostOne nmax (cells (now (c .entry)) nan) (cells (now (s .entry)) nan)
+        (cosines (now (trig .entry)) nmax j) (sines (now (trig .entry)) nmax j)
+        → GridWithin (legendreRow (now (latitudes .entry)) i) (factorOf (functionalOf functional) (now (love .entry)) gm radius r)
+        (cells (now (c .entry)) nan) (cells (now (s .entry)) nan)
+        (cosines (now (trig .entry)) nmax j) (sines (now (trig .entry)) nmax j) nmax
+        (getD (now (out .exit)) (i * longitudes + j) nan)) ⌝ }
 {
     if functional > 5 {
         return 255;
@@ -77,6 +97,10 @@ pub extern "C" fn geopotential_basin_average(
         functional (now (love .entry)) r ⌝ }
     ensures { λ x. ⌜ now (value .exit) ≡ basinAfter gm radius nmax (now (c .entry)) (now (s .entry)) kmax (now (kc .entry)) (now (ks .entry))
         functional (now (love .entry)) r (now (value .entry)) ⌝ }
+    ensures { λ x. ⌜ (x ≡ 0 → T (finite (now (value .exit))) → AtMostOne (cells (now (kc .entry)) nan 0 0)
+        → AverageWithin
+        (cells (now (c .entry)) nan) (cells (now (s .entry)) nan) (cells (now (kc .entry)) nan) (cells (now (ks .entry)) nan)
+        (factorOf (functionalOf functional) (now (love .entry)) gm radius r) (min nmax kmax) (now (value .exit))) ⌝ }
 {
     if functional > 5 {
         return 255;

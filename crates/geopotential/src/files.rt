@@ -1,5 +1,4 @@
 // The calls of the crate model_file.
-use coefficients::TideSystem;
 use model_file::FileHead;
 use model_file::Reading;
 use refusal::Answer;
@@ -8,7 +7,7 @@ ghost use Prim.Native.Nat.{_≤_};
 ghost use lib.ListN.{length};
 ghost use Rattle.refusal.specs.Numbers.{after, answerNumber};
 ghost use Rattle.storage.specs.Store.{store};
-ghost use Rattle.model_file.specs.Format.{tideOf, parse};
+ghost use Rattle.model_file.specs.Format.{parse};
 ghost use Rattle.model_file.specs.Answers.{cOf, sOf};
 ghost use Rattle.geopotential.specs.Files.{headWords, wordsOf, orSpace, modelRead, modelWriteNumber, modelWriteAfter};
 
@@ -60,21 +59,6 @@ pub extern "C" fn geopotential_model_read(
     }
 }
 
-// The tide system of a number; Unknown for one above 3, which the entry refuses before it asks.
-fn tide_system(number: u32) -> TideSystem
-    ensures { λ r. ⌜ r ≡ tideOf number ⌝ }
-{
-    if number == 0 {
-        TideSystem::TideFree
-    } else if number == 1 {
-        TideSystem::ZeroTide
-    } else if number == 2 {
-        TideSystem::MeanTide
-    } else {
-        TideSystem::Unknown
-    }
-}
-
 // Writes a model file at the front of out. A tide above 3 is refused by 9, before every check.
 #[no_mangle]
 pub extern "C" fn geopotential_model_write(
@@ -92,7 +76,7 @@ pub extern "C" fn geopotential_model_write(
     if tide > 3 {
         return 9;
     }
-    let system = tide_system(tide);
+    let system = coefficients::tide_of(tide);
     let head = FileHead {
         gm,
         radius,

@@ -14,3 +14,4 @@ mod models;
 mod numbers;
 mod points;
 mod tables;
+mod version;

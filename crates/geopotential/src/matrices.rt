@@ -30,6 +30,7 @@ pub extern "C" fn geopotential_symmetric_eigen(
         ≡ behind
         (eigenCheck n (length (now (a .entry))) (length (now (work .entry))) (length (now (values .entry))) (length (now (vectors .entry))))
         (n * n + 4 * n) (now (work .entry)) ⌝ }
+    ensures { λ r. ⌜ length (now (work .exit)) ≡ length (now (work .entry)) ⌝ }
 {
     refusal::answer_number(linalg::symmetric_eigen(n, a, work, values, vectors))
 }
@@ -56,6 +57,7 @@ pub extern "C" fn geopotential_householder_ql(
         ≡ behind
         (eigenCheck n (length (now (a .entry))) (length (now (work .entry))) (length (now (values .entry))) (length (now (vectors .entry))))
         (n * n + 4 * n) (now (work .entry)) ⌝ }
+    ensures { λ r. ⌜ length (now (work .exit)) ≡ length (now (work .entry)) ⌝ }
 {
     refusal::answer_number(linalg::householder_ql(n, a, work, values, vectors))
 }

@@ -46,6 +46,7 @@ pub extern "C" fn geopotential_partials(
         (pointCheck nmax (length (now (c .entry))) (length (now (s .entry))) (length (now (trig .entry))) (length (now (work .entry)))
         (length (now (out .entry))))
         (workSize nmax) (now (work .entry)) ⌝ }
+    ensures { λ x. ⌜ length (now (work .exit)) ≡ length (now (work .entry)) ⌝ }
 {
     let head = Head {
         gm,
@@ -101,6 +102,7 @@ pub extern "C" fn geopotential_partials_along(
         (alongCheck nmax (length (now (c .entry))) (length (now (s .entry))) points (length (now (radii .entry)))
         (length (now (latitudes .entry))) (length (now (trig .entry))) (length (now (work .entry))) (length (now (out .entry))))
         (workSize nmax) (now (work .entry)) ⌝ }
+    ensures { λ x. ⌜ length (now (work .exit)) ≡ length (now (work .entry)) ⌝ }
 {
     let head = Head {
         gm,

@@ -5,11 +5,11 @@ use Prim.Native.Nat.{ℕ, _+_, _*_}
 use lib.Dec.{ltb}
 use lib.ListN.{getD}
 use lib.Ieee.{Float, nan}
-use Rattle.number.specs.Float64.{_⊕_, _⊖_, _⊗_, _⊘_, zero64}
+use Rattle.number.specs.Float64.{_⊕_, _⊖_, _⊗_, _⊘_, zero64, two64}
 use Rattle.storage.specs.Elements.{from}
 use Rattle.matrix.specs.Matrix.{cell}
 use Rattle.matrix.specs.Layout.{flipped}
-use Rattle.householder.specs.Reduction.{two64, dot}
+use Rattle.householder.specs.Reduction.{dot}
 
 -- v over s
 unfoldable pub quotient : Float → List Float → ℕ → Float

@@ -9,14 +9,14 @@ use lib.Dec.{leb}
 use lib.ListN.{length, getD, drop}
 use lib.Ieee.{Float, nan}
 use borrow.Author.Tests.{leb-true, leb-false}
-use Rattle.number.specs.Float64.{_⊕_, _⊖_, _⊗_, _⊘_}
+use Rattle.number.specs.Float64.{_⊕_, _⊖_, _⊗_, _⊘_, two64}
 use Rattle.storage.specs.Elements.{from, from-zero, zeroAt}
 use Rattle.storage.specs.Fill.{drop-fill}
 use Rattle.storage.specs.Filled.{Filled, filled-to, filled-in, filled-before, filled-after, filled-join, filled-again, filled-same, filled-self}
 use Rattle.storage.specs.Rectangle.{byRows, by-row, by-rows-more, by-rows-at}
 use Rattle.matrix.specs.Matrix.{cell, matrix-same, cell-within}
 use Rattle.matrix.specs.Layout.{flipped, transposed, cell-transposed, Kept, filled-kept}
-use Rattle.householder.specs.Reduction.{two64, dot, norm, lessAlpha, householderVector, product, correction}
+use Rattle.householder.specs.Reduction.{dot, norm, lessAlpha, householderVector, product, correction}
 use Rattle.householder.specs.Reduction.{reflectedCell, reflected, accumulatedCell, accumulated}
 use Rattle.householder.specs.ReductionLaws.{Agree, dot-none, dot-more, dot-same, norm-same}
 use Rattle.householder.specs.Columns.{quotient, plusMultiple, plusFour, lessMultiple, columnsProduct}

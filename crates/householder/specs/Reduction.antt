@@ -5,13 +5,10 @@ use mathlib.Core.List.{List}
 use Prim.Native.Nat.{ℕ, _+_, _-_}
 use lib.Dec.{eqb, leb, ltb}
 use lib.Ieee.{Float, eq, le, neg}
-use Rattle.number.specs.Float64.{_⊕_, _⊖_, _⊗_, _⊘_, double, zero64}
+use Rattle.number.specs.Float64.{_⊕_, _⊖_, _⊗_, _⊘_, zero64, two64}
 use Rattle.number.specs.Root.{rootOf}
 use Rattle.storage.specs.Iterate.{iterate}
 use Rattle.matrix.specs.Matrix.{cell, matrixOf, identity}
-
-abbrev pub two64 : Float
-two64 = double 0x4000_0000_0000_0000
 
 -- one product more in a sum
 unfoldable pub addProduct : (ℕ → Float) → (ℕ → Float) → ℕ → Float → Float

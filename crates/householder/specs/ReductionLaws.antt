@@ -7,11 +7,11 @@ use Prim.Native.Nat.{ℕ, _+_, _≤_, _<_}
 use native.Mathlib.Nat.{le-refl}
 use lib.Dec.{leb}
 use lib.Ieee.{Float}
-use Rattle.number.specs.Float64.{_⊕_, _⊖_, _⊗_, _⊘_, zero64}
+use Rattle.number.specs.Float64.{_⊕_, _⊖_, _⊗_, _⊘_, zero64, two64}
 use Rattle.number.specs.Root.{rootOf}
 use Rattle.storage.specs.Iterate.{iterate-done, iterate-last, iterate-same}
 use Rattle.matrix.specs.Matrix.{cell, matrix-same}
-use Rattle.householder.specs.Reduction.{two64, addProduct, dot, norm, lessAlphaAt, lessAlpha, householderVector, product, correction}
+use Rattle.householder.specs.Reduction.{addProduct, dot, norm, lessAlphaAt, lessAlpha, householderVector, product, correction}
 use Rattle.householder.specs.Reduction.{reflectedCell, reflected, accumulatedCell, accumulated}
 
 -- f and g agree at the indices below n

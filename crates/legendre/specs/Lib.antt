@@ -1,3 +1,4 @@
 pub mod Rows
 pub mod Directions
 pub mod Checks
+pub mod Stored

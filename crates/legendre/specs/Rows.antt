@@ -84,6 +84,28 @@ module _ {a b : ℕ → Float} {t : Float} {n : ℕ} {newer older : List Float} 
           two = rw (e1, e2) (last .one);
         }
 
+-- row n is the next one: its coefficients start at index at, and the lists newer and older start with the two rows of q before it
+pub record UpToRow (a b : ℕ → Float) (t : Float) (n at : ℕ) (newer older : List Float) : Type 0 where
+  pub start : at ≡ rowStart n
+  pub last : LastRows a b t n newer older
+
+pub up-to-none : {a b : ℕ → Float} {t : Float} {newer older : List Float} → UpToRow a b t 0 0 newer older
+up-to-none = record { start = sym row-start-zero; last = last-rows-none }
+
+-- with row n worked out, from lists that hold its coefficients
+pub up-to-more : {a b : ℕ → Float} {t : Float} {n at n′ at′ : ℕ} {e : Float} {newer older l : List Float} → UpToRow a b t n at newer older
+    → (la lb : List Float) → ((m : ℕ) → m < n → getD la (idx n m) nan ≡ a (idx n m)) → ((m : ℕ) → m < n → getD lb (idx n m) nan ≡ b (idx n m))
+    → e ≡ pmm n → n ≤ length newer → n ≤ length older → Filled 0 (nextRow n at t e la lb newer older) (n + 1) older l
+    → n′ ≡ n + 1 → at′ ≡ at + n + 1 → UpToRow a b t n′ at′ l newer
+up-to-more {n = n} {at} below la lb av bv d h1 h2 q en ea =
+    let place : (m : ℕ) → at + m ≡ idx n m = λ m. ap (λ (i : ℕ). i + m) (below .start) in
+    rw en record {
+      start = omega (arith, row-start-more n, below .start);
+      last =
+          last-rows-more (below .last) at la lb (λ m g. ap (λ (i : ℕ). getD la i nan) (place m) ∙ av m g)
+          (λ m g. ap (λ (i : ℕ). getD lb i nan) (place m) ∙ bv m g) d h1 h2 q;
+    }
+
 -- row n of P, from row n of q as the newer of two rows and the powers of u
 pub scaled-row-is : {a b : ℕ → Float} {t : Float} (u : Float) {n k : ℕ} {q other r : List Float} → LastRows a b t (n + 1) q other → Filled 0 (rescale u) k r r
     → n < k → n < length q → n < length r → (m : ℕ) → m ≤ n → scaledRow q r m ≡ pCell a b t u n m
@@ -95,16 +117,14 @@ scaled-row-is {a} {b} {t} u {n} last powers h hq hr m l =
     cc
 
 -- ---- a table of P that is written row by row
--- the rows of P below n are written from index 0 of d on; the next row starts at index at, its sectoral number is e, and the lists newer
--- and older start with the two rows of q before it
+-- the rows of P below n are written from index 0 of d on, and the sectoral number of the next is e
 pub record RowsBelow (n at : ℕ) (e t u : Float) (a b newer older d p : List Float) : Type 0 where
-  pub start : at ≡ rowStart n
+  pub rows : UpToRow (from 0 a nan) (from 0 b nan) t n at newer older
   pub sectoral : e ≡ pmm n
-  pub last : LastRows (from 0 a nan) (from 0 b nan) t n newer older
   pub table : Filled 0 (along (pCell (from 0 a nan) (from 0 b nan) t u)) (rowStart n) d p
 
 pub rows-below-none : {t u : Float} {a b newer older d : List Float} → RowsBelow 0 0 scale64 t u a b newer older d d
-rows-below-none = record { start = sym row-start-zero; sectoral = pmm-zero; last = last-rows-none; table = filled-to filled-none (sym row-start-zero) }
+rows-below-none = record { rows = up-to-none; sectoral = pmm-zero; table = filled-to filled-none (sym row-start-zero) }
 
 -- with row n written
 module _ {n at k : ℕ} {e t u : Float} {a b newer older d p r l p′ : List Float} where
@@ -113,17 +133,14 @@ module _ {n at k : ℕ} {e t u : Float} {a b newer older d p r l p′ : List Flo
       → n ≤ length newer → n < length older → n < length r → n < k → n′ ≡ n + 1 → at′ ≡ at + n + 1 → e′ ≡ e ⊗ rootOf (sectoralRatio (n + 1))
       → RowsBelow n′ at′ e′ t u a b l newer d p′
   rows-below-more {n′} {at′} {e′} below powers q pr h1 h2 h3 h4 en ea ee =
-      let last =
-      last-rows-more (below .last) at a b
-      (λ m g. ap (λ (i : ℕ). getD a i nan) (ap (λ (i : ℕ). i + m) (below .start)) ∙ sym (from-zero a nan (idx n m)))
-      (λ m g. ap (λ (i : ℕ). getD b i nan) (ap (λ (i : ℕ). i + m) (below .start)) ∙ sym (from-zero b nan (idx n m)))
-      (below .sectoral) h1 (omega arith) q in
-      let row = filled-same (pCell (from 0 a nan) (from 0 b nan) t u n) pr (λ m g. scaled-row-is u last powers h4 (omega arith) h3 m (omega arith)) in
+      let rows =
+      up-to-more (below .rows) a b (λ m g. sym (from-zero a nan (idx n m))) (λ m g. sym (from-zero b nan (idx n m)))
+      (below .sectoral) h1 (omega arith) q refl refl in
+      let row = filled-same (pCell (from 0 a nan) (from 0 b nan) t u n) pr (λ m g. scaled-row-is u (rows .last) powers h4 (omega arith) h3 m (omega arith)) in
       let more = pmm-more n in
       let sectoral = below .sectoral in
-      rw en record {
-        start = omega (arith, row-start-more n, below .start);
+      rw (en, ea) record {
+        rows = rows;
         sectoral = cc;
-        last = last;
-        table = rows-more (pCell (from 0 a nan) (from 0 b nan) t u) n (below .table) row refl (below .start ∙ sym (zero-add (rowStart n))) refl;
+        table = rows-more (pCell (from 0 a nan) (from 0 b nan) t u) n (below .table) row refl (below .rows .start ∙ sym (zero-add (rowStart n))) refl;
       }

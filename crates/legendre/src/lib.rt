@@ -1,5 +1,6 @@
 // Fully normalized associated Legendre functions (4π normalization, no Condon–Shortley phase), by the modified forward column recursion of
-// Holmes & Featherstone (2002): it runs on P(n, m) / u^m, scaled by 1e-280 so that it cannot overflow, and the power of the cosine u comes last.
+// Holmes & Featherstone (2002): it runs on P(n, m) / u^m, scaled by 1e-280 against overflow, and the power of the cosine u comes last. Numbers that
+// are no sine and cosine, or no coefficients of `new`, are answered too, and a column of theirs may overflow.
 pub mod directions;
 pub mod rows;
 

@@ -28,7 +28,7 @@ pub fn rescales(nmax: usize, u: f64, r: &mut [f64])
 }
 
 // What P(m, m) / u^m grows by, under the root, from m - 1 to m.
-pub fn sectoral_ratio(m: usize) -> f64
+fn sectoral_ratio(m: usize) -> f64
     requires { ⌜ m ≤ 2701 ⌝ }
     ensures { λ r. ⌜ r ≡ sectoralRatio m ⌝ }
 {

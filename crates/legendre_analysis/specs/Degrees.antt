@@ -11,7 +11,7 @@ use Rattle.storage.specs.Elements.{from, from-zero}
 use Rattle.storage.specs.Filled.{Filled, filled-none, filled-same, filled-in, filled-after, filled-to}
 use Rattle.storage.specs.Triangle.{rowStart, idx, along, row-start-zero, row-start-more, rows-more}
 use Rattle.recursion.specs.Recursion.{pmm, rescale, pCell}
-use Rattle.legendre.specs.Rows.{nextRow, scaledRow, LastRows, last-rows-none, last-rows-more, scaled-row-is}
+use Rattle.legendre.specs.Rows.{nextRow, scaledRow, UpToRow, up-to-none, up-to-more, scaled-row-is}
 use Rattle.fourier_analysis.specs.Longitudes.{firstOf, secondOf}
 
 -- the entries of a degree, which start at index at, with a row's terms added: weight * P, where P is row n of q times the powers of u, before the
@@ -45,18 +45,16 @@ module _ (n : ℕ) (weight : Float) (P : ℕ → ℕ → Float) (x : ℕ → Flo
       (filled-same (addedCell weight P x d n) row (λ m h. added-row-is m (omega arith)))
       refl (start ∙ sym (zero-add (rowStart n))) refl
 
--- the terms of the degrees below n are added to c and s, which were c₀ and s₀; the next degree's entries start at index at, and the lists newer and
--- older start with the two rows of q before it
+-- the terms of the degrees below n are added to c and s, which were c₀ and s₀
 pub record DegreesBelow (n at : ℕ) (t u weight : Float) (a b sums newer older c₀ s₀ c s : List Float) : Type 0 where
-  pub start : at ≡ rowStart n
-  pub last : LastRows (from 0 a nan) (from 0 b nan) t n newer older
+  pub rows : UpToRow (from 0 a nan) (from 0 b nan) t n at newer older
   pub of-c : AddedBelow n weight (pCell (from 0 a nan) (from 0 b nan) t u) (firstOf sums) c₀ c
   pub of-s : AddedBelow n weight (pCell (from 0 a nan) (from 0 b nan) t u) (secondOf sums) s₀ s
 
 -- before degree 0
 pub degrees-none : {t u weight : Float} {a b sums newer older c s : List Float} → DegreesBelow 0 0 t u weight a b sums newer older c s c s
 degrees-none =
-    let z = sym row-start-zero in record { start = z; last = last-rows-none; of-c = filled-to filled-none z; of-s = filled-to filled-none z }
+    let z = sym row-start-zero in record { rows = up-to-none; of-c = filled-to filled-none z; of-s = filled-to filled-none z }
 
 -- as many, said otherwise
 pub degrees-to : {n n′ at : ℕ} {t u weight : Float} {a b sums newer older c₀ s₀ c s : List Float}
@@ -80,15 +78,12 @@ module _ {n at N : ℕ} {t u weight : Float} {a b sums sectorals newer older r c
       → n′ ≡ n + 1 → at′ ≡ at + n + 1 → DegreesBelow n′ at′ t u weight a b sums l newer c₀ s₀ c′ s′
   degrees-more {n′} {at′} below sectoral powers room q rc rs en ea =
       let P = pCell (from 0 a nan) (from 0 b nan) t u in
-      let last =
-      last-rows-more (below .last) at a b
-      (λ m g. ap (λ (i : ℕ). getD a i nan) (ap (λ (i : ℕ). i + m) (below .start)) ∙ sym (from-zero a nan (idx n m)))
-      (λ m g. ap (λ (i : ℕ). getD b i nan) (ap (λ (i : ℕ). i + m) (below .start)) ∙ sym (from-zero b nan (idx n m)))
-      (filled-in {j = n} nan sectoral (omega arith) (sym (zero-add n)) (omega arith)) (omega arith) (omega arith) q in
-      let row : (m : ℕ) → m ≤ n → scaledRow l r m ≡ P n m = λ m g. scaled-row-is u last powers (omega arith) (omega arith) (omega arith) m g in
-      rw en record {
-        start = omega (arith, row-start-more n, below .start);
-        last = last;
-        of-c = added-more n weight P (firstOf sums) l r (below .of-c) rc row (below .start);
-        of-s = added-more n weight P (secondOf sums) l r (below .of-s) rs row (below .start);
+      let rows =
+      up-to-more (below .rows) a b (λ m g. sym (from-zero a nan (idx n m))) (λ m g. sym (from-zero b nan (idx n m)))
+      (filled-in {j = n} nan sectoral (omega arith) (sym (zero-add n)) (omega arith)) (omega arith) (omega arith) q refl refl in
+      let row : (m : ℕ) → m ≤ n → scaledRow l r m ≡ P n m = λ m g. scaled-row-is u (rows .last) powers (omega arith) (omega arith) (omega arith) m g in
+      rw (en, ea) record {
+        rows = rows;
+        of-c = added-more n weight P (firstOf sums) l r (below .of-c) rc row (below .rows .start);
+        of-s = added-more n weight P (secondOf sums) l r (below .of-s) rs row (below .rows .start);
       }

@@ -14,9 +14,6 @@ ghost use Rattle.lengths.specs.Lengths.{degreeSize, twoDegrees, gridSize
 ghost use Rattle.lengths.specs.Lengths.{variancesLengths, amplitudesLengths, readLengths, writeLengths, gaussLengths, gridLengths, averageLengths};
 ghost use Rattle.lengths.specs.Lengths.{partialsLengths, alongLengths, threeLengths, analysisLengths, eigenLengths, capLengths};
 
-// The most nodes of a Gauss–Legendre rule.
-const MAX_NODES: usize = 2701;
-
 // `factor`: love.
 pub fn factor(n: usize, lengths: &mut [usize]) -> Answer
     ensures { λ x. ⌜ x ≡ lengthsCheck (degreeSize n) (factorLengths n) (length (now (lengths .entry))) ⌝ }
@@ -177,7 +174,7 @@ pub fn gauss_legendre(n: usize, lengths: &mut [usize]) -> Answer
     ensures { λ x. ⌜ x ≡ lengthsCheck (sizeCheck 2701 n) (gaussLengths n) (length (now (lengths .entry))) ⌝ }
     ensures { λ x. ⌜ now (lengths .exit) ≡ lengthsAfter (sizeCheck 2701 n) (gaussLengths n) (now (lengths .entry)) ⌝ }
 {
-    if n > MAX_NODES {
+    if n > quadrature::MAX_NODES {
         return Answer::Refused(Refusal::Size);
     }
     let told = [(n + 1) / 2, n, n];
@@ -322,11 +319,11 @@ pub fn polar_cap(lmax: usize, lengths: &mut [usize]) -> Answer
     ensures { λ x. ⌜ x ≡ lengthsCheck (sizeCheck 180 lmax) (capLengths lmax) (length (now (lengths .entry))) ⌝ }
     ensures { λ x. ⌜ now (lengths .exit) ≡ lengthsAfter (sizeCheck 180 lmax) (capLengths lmax) (now (lengths .entry)) ⌝ }
 {
-    if lmax > polar_cap::polar::MAX_CAP {
+    if lmax > polar_cap::MAX_CAP {
         return Answer::Refused(Refusal::Size);
     }
     let count = lmax + 1;
-    let sizes = polar_cap::polar::cap_sizes(lmax);
+    let sizes = polar_cap::cap_sizes(lmax);
     let told = [
         count,
         count + count,

@@ -19,7 +19,7 @@ ghost use Rattle.linalg.specs.Eigen.{eigenValues, eigenVectors, eigenChe
 pub const MAX_ROWS: usize = 512;
 
 // By Householder reduction and QL iteration. The iteration leaves the vectors column by column; they are turned to rows in the working list.
-pub fn reduce_and_iterate(
+fn reduce_and_iterate(
     n: usize,
     a: &[f64],
     work: &mut [f64],

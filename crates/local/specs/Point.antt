@@ -6,7 +6,7 @@ use Prim.Native.Nat.{ℕ, zero, suc, _+_, _*_}
 use lib.Dec.{ltb, eqb}
 use lib.ListN.{getD}
 use lib.Ieee.{Float, nan, binary64}
-use Rattle.refusal.specs.Numbers.{refuse}
+use Rattle.refusal.specs.Numbers.{refuse, answerNumber}
 use Rattle.refusal.specs.declared.Answer.{Answer}
 use Rattle.refusal.specs.declared.Answer.the-variants.{Done}
 use Rattle.refusal.specs.declared.Answer.the-variants.{Refused as NotDone}
@@ -80,6 +80,14 @@ unfoldable pub pointAt : (gm radius : Float) (N : ℕ) (c s trig : List Float) (
 pointAt gm radius N c s trig i r t u =
     partialsOf gm radius r (pCell (along aCell) (along bCell) t u) (dpCell (along aCell) (along bCell) t u) (cells c nan) (cells s nan)
     (cosines trig N i) (sines trig N i) N
+
+-- whether a point was worked out, or why not, and document 01's number of that
+abbrev pub pointOutcome : Point → Answer
+pointOutcome (At p) = Done
+pointOutcome (Refused e) = NotDone e
+
+abbrev pub pointNumber : Point → ℕ
+pointNumber x = answerNumber (pointOutcome x)
 
 -- the point, where the checks are passed
 abbrev pub pointIf : Answer → Partials → Point

@@ -3,6 +3,7 @@ use legendre::Latitude;
 use refusal::Refusal;
 ghost use mathlib.Core.Path.{_≡_};
 ghost use Rattle.local.specs.Local.{accelerationOf, gravityOf};
+ghost use Rattle.local.specs.Point.{pointNumber};
 
 // The gravitational potential and its first partial derivatives at one point.
 pub struct Partials {
@@ -20,6 +21,16 @@ pub struct Partials {
 pub enum Point {
     At(Partials),
     Refused(Refusal),
+}
+
+// 0 where the point is worked out, else the number of the refusal.
+pub fn point_number(x: Point) -> u32
+    ensures { λ r. ⌜ r ≡ pointNumber x ⌝ }
+{
+    match x {
+        Point::At(_) => 0,
+        Point::Refused(e) => refusal::refusal_number(e),
+    }
 }
 
 impl Partials {

@@ -1,5 +1,5 @@
 -- The sums over the degrees, order by order, as rows are added to them. Assumes nothing.
-use mathlib.Core.Path.{_≡_, sym, ap, _∙_}
+use mathlib.Core.Path.{_≡_, refl, sym, ap, _∙_}
 use mathlib.Core.List.{List}
 use Prim.Native.Nat.{ℕ, _+_, _≤_, _<_}
 use native.Mathlib.Nat.{zero-add}
@@ -11,7 +11,7 @@ use Rattle.storage.specs.Elements.{zeroAt, from, from-zero}
 use Rattle.storage.specs.Filled.{Filled, filled-same, filled-in, filled-front}
 use Rattle.storage.specs.Triangle.{rowStart, idx, cells, row-start-zero, row-start-more}
 use Rattle.recursion.specs.Recursion.{pmm, rescale, pCell}
-use Rattle.legendre.specs.Rows.{nextRow, scaledRow, LastRows, last-rows-none, last-rows-more, scaled-row-is}
+use Rattle.legendre.specs.Rows.{nextRow, scaledRow, UpToRow, up-to-none, up-to-more, scaled-row-is}
 use Rattle.rounding.specs.Sums.{columnSum}
 use Rattle.rounding.specs.SumSteps.{column-none, column-more, column-past}
 use Rattle.rounding.specs.Margins.{gridSummand}
@@ -52,18 +52,16 @@ module _ (N : ℕ) (P : ℕ → ℕ → Float) (factors c : List Float) where
         filled-front (columnSum binary64 terms (n + 1)) below row (omega arith) (λ m g. added-row-is m (omega arith))
         (λ m g k. column-past binary64 terms n m (omega arith))
 
--- the degrees below n are added to the sums x and y, which were x₀ and y₀; the next row starts at index at, and the lists newer and older start
--- with the two rows of q before it
+-- the degrees below n are added to the sums x and y, which were x₀ and y₀
 pub record DegreesBelow (n at N : ℕ) (t u : Float) (a b c s factors newer older x₀ y₀ x y : List Float) : Type 0 where
-  pub start : at ≡ rowStart n
-  pub last : LastRows (from 0 a nan) (from 0 b nan) t n newer older
+  pub rows : UpToRow (from 0 a nan) (from 0 b nan) t n at newer older
   pub of-c : SumsBelow n N (pCell (from 0 a nan) (from 0 b nan) t u) factors c x₀ x
   pub of-s : SumsBelow n N (pCell (from 0 a nan) (from 0 b nan) t u) factors s y₀ y
 
 -- before degree 0
 pub degrees-none : {N : ℕ} {t u : Float} {a b c s factors newer older x y : List Float} → Filled 0 zeroAt (N + 1) x x → Filled 0 zeroAt (N + 1) y y
     → DegreesBelow 0 0 N t u a b c s factors newer older x y x y
-degrees-none zx zy = record { start = sym row-start-zero; last = last-rows-none; of-c = sums-none _ _ _ _ zx; of-s = sums-none _ _ _ _ zy }
+degrees-none zx zy = record { rows = up-to-none; of-c = sums-none _ _ _ _ zx; of-s = sums-none _ _ _ _ zy }
 
 -- as many, said otherwise
 pub degrees-to : {n n′ at N : ℕ} {t u : Float} {a b c s factors newer older x₀ y₀ x y : List Float}
@@ -90,17 +88,14 @@ module _ {n at N : ℕ} {t u : Float} {a b c s factors sectorals newer older r p
       → n′ ≡ n + 1 → at′ ≡ at + n + 1 → DegreesBelow n′ at′ N t u a b c s factors l newer x₀ y₀ x′ y′
   degrees-more {n′} {at′} below sectoral powers room q pr rx ry en ea =
       let P = pCell (from 0 a nan) (from 0 b nan) t u in
-      let last =
-      last-rows-more (below .last) at a b
-      (λ m g. ap (λ (i : ℕ). getD a i nan) (ap (λ (i : ℕ). i + m) (below .start)) ∙ sym (from-zero a nan (idx n m)))
-      (λ m g. ap (λ (i : ℕ). getD b i nan) (ap (λ (i : ℕ). i + m) (below .start)) ∙ sym (from-zero b nan (idx n m)))
-      (filled-in {j = n} nan sectoral (omega arith) (sym (zero-add n)) (omega arith)) (omega arith) (omega arith) q in
+      let rows =
+      up-to-more (below .rows) a b (λ m g. sym (from-zero a nan (idx n m))) (λ m g. sym (from-zero b nan (idx n m)))
+      (filled-in {j = n} nan sectoral (omega arith) (sym (zero-add n)) (omega arith)) (omega arith) (omega arith) q refl refl in
       let row : (m : ℕ) → m ≤ n → getD p′ m nan ≡ P n m =
       λ m g. filled-in {j = m} nan pr (omega arith) (sym (zero-add m)) (omega arith)
-      ∙ scaled-row-is u last powers (omega arith) (omega arith) (omega arith) m g in
-      rw en record {
-        start = omega (arith, row-start-more n, below .start);
-        last = last;
-        of-c = sums-more N P factors c p′ (below .of-c) rx row (below .start) (omega arith) (omega arith);
-        of-s = sums-more N P factors s p′ (below .of-s) ry row (below .start) (omega arith) (omega arith);
+      ∙ scaled-row-is u (rows .last) powers (omega arith) (omega arith) (omega arith) m g in
+      rw (en, ea) record {
+        rows = rows;
+        of-c = sums-more N P factors c p′ (below .of-c) rx row (below .rows .start) (omega arith) (omega arith);
+        of-s = sums-more N P factors s p′ (below .of-s) ry row (below .rows .start) (omega arith) (omega arith);
       }

@@ -8,9 +8,10 @@ use mathlib.Core.List.{List, _∷_, _++_}
 use lib.ListN.{length, getD, set, drop, drop-of-length-le}
 use lib.Seq.{drop-cons}
 use Rattle.storage.specs.Store.{store, store-cons, store-append}
+use Rattle.coefficients.specs.Model.{tideNumber}
 use Rattle.model_file.specs.declared.FileHead.{FileHead}
 use Rattle.model_file.specs.LittleEndian.{bytesOf, numberAt, wordsAt, length-bytes}
-use Rattle.model_file.specs.Format.{tideByte, headBytes, pairBytes, recordBytes, render}
+use Rattle.model_file.specs.Format.{headBytes, pairBytes, recordBytes, render}
 use Rattle.model_file.specs.Head.{length-head-bytes}
 use Rattle.model_file.specs.Body.{length-pair}
 
@@ -86,13 +87,13 @@ pair-parts d d′ d″ at c s e f =
     ∙ sym (store-append at (2 ∷ bytesOf 8 c) (bytesOf 8 s) d)
 
 pub head-parts : (d d₁ d₂ d₃ : List ℕ) (h : FileHead) (t : ℕ) → d₁ ≡ store 1 (bytesOf 8 (h .gm)) (set d 0 1) → d₂ ≡ store 9 (bytesOf 8 (h .radius)) d₁
-    → t ≡ tideByte (h .tide) → d₃ ≡ store 18 (bytesOf 2 (h .nmax)) (set d₂ 17 t) → d₃ ≡ store 0 (headBytes h) d
+    → t ≡ tideNumber (h .tide) → d₃ ≡ store 18 (bytesOf 2 (h .nmax)) (set d₂ 17 t) → d₃ ≡ store 0 (headBytes h) d
 unfolding headBytes
 head-parts d d₁ d₂ d₃ h t e f g i =
     let g8 : List ℕ = bytesOf 8 (h .gm) in
     let r8 : List ℕ = bytesOf 8 (h .radius) in
     let n2 : List ℕ = bytesOf 2 (h .nmax) in
-    let t3 : List ℕ = tideByte (h .tide) ∷ n2 in
+    let t3 : List ℕ = tideNumber (h .tide) ∷ n2 in
     i ∙ sym (store-cons 17 t n2 d₂)
     ∙ ap (λ (x : ℕ). store 17 (x ∷ n2) d₂) g
     ∙ ap (λ (l : List ℕ). store 17 t3 l) f

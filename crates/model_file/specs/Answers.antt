@@ -12,7 +12,7 @@ use Rattle.refusal.specs.declared.Answer.the-variants.{Done}
 use Rattle.refusal.specs.declared.Answer.the-variants.{Refused as Stopped}
 use Rattle.refusal.specs.declared.Refusal.{Refusal}
 use Rattle.refusal.specs.declared.Refusal.the-variants.{Size, Length, Space}
-use Rattle.refusal.specs.Numbers.{refuse}
+use Rattle.refusal.specs.Numbers.{refuse, answerNumber}
 use Rattle.storage.specs.Answers.{sizeOf, size-is}
 use Rattle.storage.specs.Store.{store}
 use Rattle.storage.specs.Triangle.{tableSize}
@@ -24,6 +24,14 @@ use Rattle.model_file.specs.Format.{refuseReading, headOf, bodyOf, Parse
 use Rattle.model_file.specs.Head.{head-small}
 use Rattle.model_file.specs.Body.{body-long}
 
+-- whether a file was read, or why not, and document 01's number of that
+abbrev pub readOutcome : Reading → Answer
+readOutcome (Model h) = Done
+readOutcome (Refused e) = Stopped e
+
+abbrev pub readingNumber : Reading → ℕ
+readingNumber r = answerNumber (readOutcome r)
+
 -- whether a file is accepted, or why it is refused
 abbrev pub verdictOf : Parsed → Answer
 verdictOf (model h c s) = Done
@@ -33,11 +41,6 @@ verdictOf (fault e) = Stopped e
 abbrev pub readAnswer : Parsed → ℕ → ℕ → Reading
 readAnswer (model h c s) lc ls = refuseReading (ltb lc (length c)) Space (refuseReading (ltb ls (length s)) Space (Model h))
 readAnswer (fault e) lc ls = Refused e
-
--- what a list holds after `read`: what the work makes of it, or, refused, what it held
-abbrev pub afterRead {ℓ} : {A : Type ℓ} → Reading → A → A → A
-afterRead (Model h) made old = made
-afterRead (Refused e) made old = old
 
 -- the numbers c and s of a file, none where it is refused
 abbrev pub cOf : Parsed → List ℕ

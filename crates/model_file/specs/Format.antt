@@ -12,22 +12,11 @@ use Rattle.refusal.specs.declared.Refusal.the-variants.{Size, Short, Kind, Afte
 use Rattle.refusal.specs.declared.Refusal.the-variants.{Tide as BadTide}
 use Rattle.refusal.specs.Numbers.{refuse}
 use Rattle.storage.specs.Triangle.{tableSize}
-use Rattle.coefficients.specs.declared.TideSystem.{TideSystem}
-use Rattle.coefficients.specs.declared.TideSystem.the-variants.{TideFree, ZeroTide, MeanTide, Unknown}
+use Rattle.coefficients.specs.Model.{tideNumber, tideOf}
 use Rattle.model_file.specs.declared.FileHead.{FileHead}
 use Rattle.model_file.specs.declared.Reading.{Reading}
 use Rattle.model_file.specs.declared.Reading.the-variants.{Model, Refused}
 use Rattle.model_file.specs.LittleEndian.{bytesOf, numberAt, wordsAt}
-
--- the byte of a tide system, and the tide system of a byte
-abbrev pub tideByte : TideSystem → ℕ
-tideByte TideFree = 0
-tideByte ZeroTide = 1
-tideByte MeanTide = 2
-tideByte Unknown = 3
-
-abbrev pub tideOf : ℕ → TideSystem
-tideOf b = cond (eqb b 0) TideFree (cond (eqb b 1) ZeroTide (cond (eqb b 2) MeanTide Unknown))
 
 -- a ground that holds refuses, before what comes after it is looked at
 unfoldable pub refuseReading : Bool → Refusal → Reading → Reading
@@ -79,7 +68,7 @@ parse s = parseHead (headOf s) s
 
 -- the record of a head
 unfoldable pub headBytes : FileHead → List ℕ
-headBytes h = (1 ∷ bytesOf 8 (h .gm)) ++ (bytesOf 8 (h .radius) ++ (tideByte (h .tide) ∷ bytesOf 2 (h .nmax)))
+headBytes h = (1 ∷ bytesOf 8 (h .gm)) ++ (bytesOf 8 (h .radius) ++ (tideNumber (h .tide) ∷ bytesOf 2 (h .nmax)))
 
 -- the record of a pair
 unfoldable pub pairBytes : ℕ → ℕ → List ℕ

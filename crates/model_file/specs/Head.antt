@@ -2,7 +2,7 @@
 -- say the same. Assumes nothing.
 use mathlib.Core.Path.{_≡_, refl, sym, ap, _∙_}
 use mathlib.Core.Bool.{Bool, true, false, not}
-use Prim.Native.Nat.{ℕ, zero, suc, _+_, _^_, _≤_, _<_}
+use Prim.Native.Nat.{ℕ, _+_, _^_, _≤_, _<_}
 use native.Mathlib.Omega.{arith}
 use mathlib.Core.List.{List, _∷_, _++_, append-assoc}
 use lib.ListN.{length, getD, drop, length-append}
@@ -10,14 +10,13 @@ use borrow.Author.Tests.{lt-ltb, le-ltb, ltb-false, lt-leb, le-leb, eq-eqb, ne-e
 use Rattle.refusal.specs.declared.Refusal.{Refusal}
 use Rattle.refusal.specs.declared.Refusal.the-variants.{Size, Short, Kind}
 use Rattle.refusal.specs.declared.Refusal.the-variants.{Tide as BadTide}
-use Rattle.coefficients.specs.declared.TideSystem.{TideSystem}
-use Rattle.coefficients.specs.declared.TideSystem.the-variants.{TideFree, ZeroTide, MeanTide, Unknown}
+use Rattle.coefficients.specs.Model.{tideNumber, tide-small, tide-back, tide-forth}
 use Rattle.model_file.specs.declared.FileHead.{FileHead}
 use Rattle.model_file.specs.declared.Reading.{Reading}
 use Rattle.model_file.specs.declared.Reading.the-variants.{Model, Refused}
 use Rattle.model_file.specs.LittleEndian.{bytesOf, numberAt, length-bytes, Below, here-head, here-tail, here-long, here-rest, here-cons}
 use Rattle.model_file.specs.LittleEndian.{number-here, bytes-here}
-use Rattle.model_file.specs.Format.{tideByte, tideOf, refuseReading, headAt, headOf, headBytes}
+use Rattle.model_file.specs.Format.{refuseReading, headAt, headOf, headBytes}
 
 module _ (s : List ℕ) where
   pub head-absent : length s ≤ 0 → Refused Short ≡ headOf s
@@ -96,20 +95,8 @@ length-head-bytes h = refl
 
 -- ---- from a head to its record and back
 
-tide-back : (t : TideSystem) → tideOf (tideByte t) ≡ t
-tide-back TideFree = refl
-tide-back ZeroTide = refl
-tide-back MeanTide = refl
-tide-back Unknown = refl
-
-tide-small : (t : TideSystem) → tideByte t ≤ 3
-tide-small TideFree = omega arith
-tide-small ZeroTide = omega arith
-tide-small MeanTide = omega arith
-tide-small Unknown = omega arith
-
 head-is : (s : List ℕ) (h : FileHead) → Model (headAt s) ≡ headOf s → numberAt 8 s 1 ≡ h .gm → numberAt 8 s 9 ≡ h .radius
-    → getD s 17 0 ≡ tideByte (h .tide) → numberAt 2 s 18 ≡ h .nmax → headOf s ≡ Model h
+    → getD s 17 0 ≡ tideNumber (h .tide) → numberAt 2 s 18 ≡ h .nmax → headOf s ≡ Model h
 head-is s h p g r t n = sym p ∙ rw (g, r, t, tide-back, n) refl
 
 -- what stands behind a head's record, and that the record says that head
@@ -122,11 +109,11 @@ unfolding headBytes
 head-of-bytes h rest gm-fits radius-fits small =
     let s : List ℕ = headBytes h ++ rest in
     let n2 : List ℕ = bytesOf 2 (h .nmax) in
-    let p1 : drop 1 s ≡ bytesOf 8 (h .gm) ++ (bytesOf 8 (h .radius) ++ (tideByte (h .tide) ∷ n2 ++ rest)) =
-    append-assoc (bytesOf 8 (h .gm)) (bytesOf 8 (h .radius) ++ (tideByte (h .tide) ∷ n2)) rest
-    ∙ ap (λ (l : List ℕ). bytesOf 8 (h .gm) ++ l) (append-assoc (bytesOf 8 (h .radius)) (tideByte (h .tide) ∷ n2) rest) in
-    let p9 : drop 9 s ≡ bytesOf 8 (h .radius) ++ (tideByte (h .tide) ∷ n2 ++ rest) = here-rest s 1 8 (bytesOf 8 (h .gm)) _ (length-bytes 8 (h .gm)) p1 in
-    let p17 : drop 17 s ≡ tideByte (h .tide) ∷ n2 ++ rest = here-rest s 9 8 (bytesOf 8 (h .radius)) _ (length-bytes 8 (h .radius)) p9 in
+    let p1 : drop 1 s ≡ bytesOf 8 (h .gm) ++ (bytesOf 8 (h .radius) ++ (tideNumber (h .tide) ∷ n2 ++ rest)) =
+    append-assoc (bytesOf 8 (h .gm)) (bytesOf 8 (h .radius) ++ (tideNumber (h .tide) ∷ n2)) rest
+    ∙ ap (λ (l : List ℕ). bytesOf 8 (h .gm) ++ l) (append-assoc (bytesOf 8 (h .radius)) (tideNumber (h .tide) ∷ n2) rest) in
+    let p9 : drop 9 s ≡ bytesOf 8 (h .radius) ++ (tideNumber (h .tide) ∷ n2 ++ rest) = here-rest s 1 8 (bytesOf 8 (h .gm)) _ (length-bytes 8 (h .gm)) p1 in
+    let p17 : drop 17 s ≡ tideNumber (h .tide) ∷ n2 ++ rest = here-rest s 9 8 (bytesOf 8 (h .radius)) _ (length-bytes 8 (h .radius)) p9 in
     let p18 : drop 18 s ≡ n2 ++ rest = here-tail s 17 _ _ p17 in
     let g = number-here 8 s 1 (h .gm) _ gm-fits p1 in
     let r = number-here 8 s 9 (h .radius) _ radius-fits p9 in
@@ -135,13 +122,6 @@ head-of-bytes h rest gm-fits radius-fits small =
     let long = here-long s 17 _ p17 (omega (arith, length-append n2 rest)) in
     let m = head-model s refl (omega (arith, length-append n2 rest, length-bytes 2 (h .nmax))) (omega (arith, tide-small (h .tide))) (omega arith) in
     record { is = head-is s h m g r t n; behind = here-rest s 18 2 n2 rest (length-bytes 2 (h .nmax)) p18 }
-
-tide-forth : (b : ℕ) → b ≤ 3 → tideByte (tideOf b) ≡ b
-tide-forth zero h = refl
-tide-forth (suc zero) h = refl
-tide-forth (suc (suc zero)) h = refl
-tide-forth (suc (suc (suc zero))) h = refl
-tide-forth (suc (suc (suc (suc b)))) h = absurd (omega arith)
 
 -- an accepted head's record is the front of the file
 pub head-back : (s : List ℕ) (h : FileHead) → Below 256 s → Headed s h → s ≡ headBytes h ++ drop 20 s

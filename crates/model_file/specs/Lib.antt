@@ -5,3 +5,4 @@ pub mod Body
 pub mod Answers
 pub mod RoundTrip
 pub mod Truncation
+pub mod HandedBack

@@ -9,9 +9,10 @@ ghost use lib.ListN.{length};
 ghost use Rattle.refusal.specs.Numbers.{after};
 ghost use Rattle.storage.specs.Store.{store};
 ghost use Rattle.storage.specs.Triangle.{tableSize};
+ghost use Rattle.coefficients.specs.Model.{tideNumber, tideOf};
 ghost use Rattle.model_file.specs.LittleEndian.{bytesOf, numberAt, wordsAt};
-ghost use Rattle.model_file.specs.Format.{tideByte, tideOf, headOf, bodyOf, parse, headBytes, pairBytes, recordBytes, render};
-ghost use Rattle.model_file.specs.Answers.{verdictOf, readAnswer, afterRead, cOf, sOf, writeAnswer};
+ghost use Rattle.model_file.specs.Format.{headOf, bodyOf, parse, headBytes, pairBytes, recordBytes, render};
+ghost use Rattle.model_file.specs.Answers.{readOutcome, readingNumber, verdictOf, readAnswer, cOf, sOf, writeAnswer};
 
 // A file's head. gm and radius are the bit patterns of doubles.
 pub struct FileHead {
@@ -25,6 +26,16 @@ pub struct FileHead {
 pub enum Reading {
     Model(FileHead),
     Refused(Refusal),
+}
+
+// 0 where a file is read, else the number of the refusal.
+pub fn reading_number(r: Reading) -> u32
+    ensures { λ x. ⌜ x ≡ readingNumber r ⌝ }
+{
+    match r {
+        Reading::Model(_) => 0,
+        Reading::Refused(e) => refusal::refusal_number(e),
+    }
 }
 
 fn wide(b: u8) -> u64
@@ -61,26 +72,13 @@ fn read_degree(s: &[u8], at: usize) -> usize
 fn tide_of(b: u8) -> TideSystem
     ensures { λ r. ⌜ r ≡ tideOf b ⌝ }
 {
-    if b == 0 {
-        TideSystem::TideFree
-    } else if b == 1 {
-        TideSystem::ZeroTide
-    } else if b == 2 {
-        TideSystem::MeanTide
-    } else {
-        TideSystem::Unknown
-    }
+    coefficients::tide_of(b as u32)
 }
 
 fn tide_byte(t: TideSystem) -> u8
-    ensures { λ r. ⌜ r ≡ tideByte t ⌝ }
+    ensures { λ r. ⌜ r ≡ tideNumber t ⌝ }
 {
-    match t {
-        TideSystem::TideFree => 0,
-        TideSystem::ZeroTide => 1,
-        TideSystem::MeanTide => 2,
-        TideSystem::Unknown => 3,
-    }
+    coefficients::tide_number(t) as u8
 }
 
 // The head of a file, or why the file is refused by its head. What stands behind the head is not looked at.
@@ -178,8 +176,8 @@ pub fn verdict(bytes: &[u8]) -> Answer
 // Reads a model file: its head by value, its numbers at the front of c and s, T in each. A refusal writes nothing.
 pub fn read(bytes: &[u8], c: &mut [u64], s: &mut [u64]) -> Reading
     ensures { λ r. ⌜ r ≡ readAnswer (parse (now (bytes .entry))) (length (now (c .entry))) (length (now (s .entry))) ⌝ }
-    ensures { λ r. ⌜ now (c .exit) ≡ afterRead r (store 0 (cOf (parse (now (bytes .entry)))) (now (c .entry))) (now (c .entry)) ⌝ }
-    ensures { λ r. ⌜ now (s .exit) ≡ afterRead r (store 0 (sOf (parse (now (bytes .entry)))) (now (s .entry))) (now (s .entry)) ⌝ }
+    ensures { λ r. ⌜ now (c .exit) ≡ after (readOutcome r) (store 0 (cOf (parse (now (bytes .entry)))) (now (c .entry))) (now (c .entry)) ⌝ }
+    ensures { λ r. ⌜ now (s .exit) ≡ after (readOutcome r) (store 0 (sOf (parse (now (bytes .entry)))) (now (s .entry))) (now (s .entry)) ⌝ }
 {
     match head(bytes) {
         Reading::Refused(e) => Reading::Refused(e),
@@ -280,7 +278,7 @@ pub fn write(head: FileHead, c: &[u64], s: &[u64], out: &mut [u8]) -> Answer
     ensures { λ r. ⌜ now (out .exit) ≡ after r (store 0 (render head (now (c .entry)) (now (s .entry))) (now (out .entry))) (now (out .entry)) ⌝ }
 {
     let nmax = head.nmax;
-    if nmax > storage::MAX_DEGREE {
+    if storage::MAX_DEGREE < nmax {
         return Answer::Refused(Refusal::Size);
     }
     let count = storage::table_size(nmax);

@@ -33,3 +33,9 @@ zero64 = double 0
 
 abbrev pub one64 : Float
 one64 = double 0x3ff0_0000_0000_0000
+
+abbrev pub two64 : Float
+two64 = double 0x4000_0000_0000_0000
+
+abbrev pub three64 : Float
+three64 = double 0x4008_0000_0000_0000

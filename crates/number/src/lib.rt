@@ -6,7 +6,8 @@ mod root_estimate;
 ghost use mathlib.Core.Path.{_≡_};
 ghost use Prim.Native.Nat.{ℕ, _+_, _*_, _^_, _<_, _≤_};
 ghost use mathlib.Core.Bool.{false};
-ghost use lib.Ieee.{binary64, ofBits, toBits, lt};
+ghost use lib.ListN.{getD};
+ghost use lib.Ieee.{binary64, nan, ofBits, toBits, lt};
 ghost use Rattle.number.specs.Root.{rootOfUnits, rootOf};
 ghost use Rattle.number.specs.Sign.{negative, magnitudeOf, signumOf};
 ghost use Rattle.number.specs.Hypot.{longOf, hypotOf};
@@ -219,4 +220,11 @@ pub fn ranks_before(x: f64, y: f64) -> bool
         return y == y;
     }
     false
+}
+
+// The element of a list at an index, and NaN past the last.
+pub fn element_or_nan(list: &[f64], k: usize) -> f64
+    ensures { λ r. ⌜ r ≡ getD (now (list .entry)) k nan ⌝ }
+{
+    if k < list.len() { list[k] } else { 0.0 / 0.0 }
 }

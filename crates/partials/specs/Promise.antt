@@ -6,7 +6,6 @@ use native.Mathlib.Nat.{zero-add}
 use native.Mathlib.Omega.{arith}
 use lib.ListN.{length, getD, take, drop}
 use lib.Ieee.{Float, nan}
-use Rattle.refusal.specs.Numbers.{behind}
 use Rattle.refusal.specs.declared.Answer.{Answer}
 use Rattle.refusal.specs.declared.Answer.the-variants.{Done}
 use Rattle.refusal.specs.declared.Answer.the-variants.{Refused as NotDone}
@@ -104,9 +103,6 @@ module _ (gm radius : Float) (N : ℕ) (c s trig radii lats : List Float) where
 module _ {a : Answer} where
   pub point-refused : (e : Refusal) (p : Partials) → NotDone e ≡ a → Refused e ≡ pointIf a p
   point-refused e p h = ap (λ (y : Answer). pointIf y p) h
-
-  pub rest-behind : (k : ℕ) (w w′ : List Float) → Done ≡ a → drop k w′ ≡ drop k w → behind a k w′ ≡ behind a k w
-  rest-behind k w w′ h e = rw (← h) e
 
   -- the four numbers of a list of one point
   pub one-point : (gm radius : Float) (N : ℕ) (c s trig : List Float) (r t u : Float) {w w′ o o′ : List Float} → Done ≡ a

@@ -1,6 +1,6 @@
 // The gravitational potential of a field and its first partial derivatives at points.
-pub mod points;
-pub mod workspace;
+mod points;
+mod workspace;
 
 use coefficients::Head;
 use legendre::Latitude;
@@ -14,7 +14,7 @@ ghost use lib.ListN.{length};
 ghost use Rattle.refusal.specs.Numbers.{after, behind};
 ghost use Rattle.storage.specs.Fill.{fill};
 ghost use Rattle.storage.specs.Rectangle.{byRows};
-ghost use Rattle.local.specs.Point.{pointAt, pointIf, alongCell, workSize, partialsCheck, alongCheck};
+ghost use Rattle.local.specs.Point.{pointOutcome, pointAt, pointIf, alongCell, workSize, partialsCheck, alongCheck};
 
 // The most points of a call.
 pub const MAX_POINTS: usize = 65535;
@@ -78,7 +78,7 @@ fn along_check(
 }
 
 // V and its derivatives at radius r and one latitude and longitude; `trig` has the cosine and the sine of m times the longitude for the orders m up
-// to N. Finite at the poles.
+// to N. No division by u: at a pole, where u is 0, the sums are what the recursion gives there.
 pub fn partials(
     head: Head,
     c: &[f64],
@@ -91,12 +91,8 @@ pub fn partials(
     ensures { λ x. ⌜ x ≡ pointIf
         (partialsCheck (head .nmax) (length (now (c .entry))) (length (now (s .entry))) (length (now (trig .entry))) (length (now (work .entry))))
         (pointAt (head .gm) (head .radius) (head .nmax) (now (c .entry)) (now (s .entry)) (now (trig .entry)) 0 r (latitude .t) (latitude .u)) ⌝ }
-    ensures { λ x. ⌜ behind
-        (partialsCheck (head .nmax) (length (now (c .entry))) (length (now (s .entry))) (length (now (trig .entry))) (length (now (work .entry))))
-        (workSize (head .nmax)) (now (work .exit))
-        ≡ behind
-        (partialsCheck (head .nmax) (length (now (c .entry))) (length (now (s .entry))) (length (now (trig .entry))) (length (now (work .entry))))
-        (workSize (head .nmax)) (now (work .entry)) ⌝ }
+    ensures { λ x. ⌜ behind (pointOutcome x) (workSize (head .nmax)) (now (work .exit))
+        ≡ behind (pointOutcome x) (workSize (head .nmax)) (now (work .entry)) ⌝ }
     ensures { λ x. ⌜ length (now (work .exit)) ≡ length (now (work .entry)) ⌝ }
 {
     match partials_check(head.nmax, c.len(), s.len(), trig.len(), work.len()) {

@@ -12,7 +12,7 @@ use Rattle.storage.specs.Elements.{from}
 use Rattle.storage.specs.Filled.{Filled, filled-in}
 use Rattle.storage.specs.Triangle.{rowStart, idx, tableSize, cells, along, row-start-zero, row-start-more, idx-within, along-idx}
 use Rattle.recursion.specs.Recursion.{aCell, bCell, pCell, pmm, rescale}
-use Rattle.legendre.specs.Rows.{nextRow, scaledRow, LastRows, last-rows-none, last-rows-more, scaled-row-is}
+use Rattle.legendre.specs.Rows.{nextRow, scaledRow, UpToRow, up-to-none, up-to-more, scaled-row-is}
 use Rattle.derivative.specs.Derivative.{dpCell, weightCell, derivedRow, derived-row-is}
 use Rattle.legendre.specs.Directions.{cosines, sines}
 use Rattle.rounding.specs.Sums.{zero⁺, runningSum}
@@ -176,15 +176,14 @@ pointSums q t u k c s trig =
     sumsBelow q (pCell (along aCell) (along bCell) t u) (dpCell (along aCell) (along bCell) t u) (cells c nan) (cells s nan)
     (cosineFrom k trig) (sineFrom k trig)
 
--- they stand in x; the next row starts at index at, and the lists newer and older start with the two rows of the recursion before it
+-- they stand in x
 pub record DegreesBelow (n at : ℕ) (q t u : Float) (k : ℕ) (c s trig newer older : List Float) (x : DegreeSums) : Type 0 where
-  pub start : at ≡ rowStart n
-  pub last : LastRows (along aCell) (along bCell) t n newer older
+  pub rows : UpToRow (along aCell) (along bCell) t n at newer older
   pub are : x ≡ pointSums q t u k c s trig n
 
 pub degrees-none : {q t u : Float} {k : ℕ} {c s trig newer older : List Float} {x : DegreeSums}
     → x ≡ record { power = one64; v = zero64; dr = zero64; dlat = zero64; dlon = zero64 } → DegreesBelow 0 0 q t u k c s trig newer older x
-degrees-none e = record { start = sym row-start-zero; last = last-rows-none; are = sums-none _ _ _ _ _ _ _ _ e }
+degrees-none e = record { rows = up-to-none; are = sums-none _ _ _ _ _ _ _ _ e }
 
 -- the lists have room for degree n
 pub record DegreeFits (n N : ℕ) (sectorals r newer older p d : List Float) : Type 0 where
@@ -211,27 +210,24 @@ module _ {n at N : ℕ} {q t u : Float} {k : ℕ} {a b w c s trig sectorals newe
       let dP = dpCell (along aCell) (along bCell) t u in
       let cos = cosineFrom k trig in
       let sin = sineFrom k trig in
-      let place : (m : ℕ) → at + m ≡ idx n m = λ m. ap (λ (i : ℕ). i + m) (below .start) in
-      let last =
-      last-rows-more (below .last) at a b
-      (λ m g. ap (λ (i : ℕ). getD a i nan) (place m) ∙ tabled .of-a (idx n m) (idx-within n m N (omega arith) (omega arith)))
-      (λ m g. ap (λ (i : ℕ). getD b i nan) (place m) ∙ tabled .of-b (idx n m) (idx-within n m N (omega arith) (omega arith)))
-      (filled-in {j = n} nan sectoral (omega arith) (sym (zero-add n)) (omega arith)) (omega arith) (omega arith) rq in
+      let rows =
+      up-to-more (below .rows) a b (λ m g. tabled .of-a (idx n m) (idx-within n m N (omega arith) (omega arith)))
+      (λ m g. tabled .of-b (idx n m) (idx-within n m N (omega arith) (omega arith)))
+      (filled-in {j = n} nan sectoral (omega arith) (sym (zero-add n)) (omega arith)) (omega arith) (omega arith) rq refl refl in
       let row : (m : ℕ) → m ≤ n → from 0 p′ nan m ≡ P n m =
       λ m g. filled-in {j = m} nan rp (omega arith) refl (omega arith)
-      ∙ scaled-row-is u last powers (omega arith) (omega arith) (omega arith) m g in
+      ∙ scaled-row-is u (rows .last) powers (omega arith) (omega arith) (omega arith) m g in
       let weights : (m : ℕ) → m ≤ n → from at w nan m ≡ weightCell n m =
-      λ m g. ap (λ (i : ℕ). getD w i nan) (place m) ∙ tabled .of-w (idx n m) (idx-within n m N g (omega arith)) ∙ along-idx weightCell n m g in
+      λ m g. ap (λ (i : ℕ). getD w (i + m) nan) (below .rows .start) ∙ tabled .of-w (idx n m) (idx-within n m N g (omega arith)) ∙ along-idx weightCell n m g in
       let derived : (m : ℕ) → m ≤ n → from 0 d′ nan m ≡ dP n m =
       λ m g. filled-in {j = m} nan rd (omega arith) refl (omega arith)
       ∙ derived-row-is P n (from at w nan) (from 0 p′ nan) (omega arith) weights row m g in
-      rw en record {
-        start = omega (arith, row-start-more n, below .start);
-        last = last;
+      rw (en, ea) record {
+        rows = rows;
         are =
             ex
             ∙ with-degree-same n q (from at c nan) (from at s nan) cos sin x row derived
-            ∙ ap (λ (i : ℕ). withDegree n q (P n) (dP n) (from i c nan) (from i s nan) cos sin x) (below .start)
+            ∙ ap (λ (i : ℕ). withDegree n q (P n) (dP n) (from i c nan) (from i s nan) cos sin x) (below .rows .start)
             ∙ ap (withDegree n q (P n) (dP n) (cells c nan n) (cells s nan n) cos sin) (below .are)
             ∙ sums-more q P dP (cells c nan) (cells s nan) cos sin n;
       }

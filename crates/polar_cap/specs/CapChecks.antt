@@ -1,17 +1,16 @@
 -- The checks of `polar_cap`: one law for each way through them, and what passed checks tell. Assumes nothing.
-use mathlib.Core.Path.{_≡_, refl, sym, ap, _∙_}
-use mathlib.Core.Bool.{Bool, true, false, not}
+use mathlib.Core.Path.{_≡_, refl}
+use mathlib.Core.Bool.{not}
 use Prim.Native.Nat.{ℕ, _+_, _*_, _≤_, _<_}
 use native.Mathlib.Nat.{mul-le-mul}
 use native.Mathlib.Omega.{arith}
 use lib.Dec.{ltb, eqb, nltb→le}
-use borrow.Author.Tests.{lt-ltb, le-ltb, eq-eqb, ne-eqb}
-use Rattle.refusal.specs.Numbers.{refuse, refuse-yes, refuse-no}
+use borrow.Author.Tests.{lt-ltb, le-ltb}
+use Rattle.refusal.specs.Numbers.{refuse}
 use Rattle.refusal.specs.declared.Answer.{Answer}
 use Rattle.refusal.specs.declared.Answer.the-variants.{Done, Refused}
-use Rattle.refusal.specs.declared.Refusal.{Refusal}
 use Rattle.refusal.specs.declared.Refusal.the-variants.{Size, Length, Space}
-use Rattle.storage.specs.Checks.{past, same}
+use Rattle.storage.specs.Checks.{past, same, stop, pass, equal, different}
 use Rattle.storage.specs.Triangle.{rowStart, tableSize, row-start-monotone}
 use Rattle.polar_cap.specs.PolarCap.{vectorsSize, capWork, capCheck}
 use Rattle.cap_functions.specs.CapPlaces.{CapRoom}
@@ -25,18 +24,6 @@ pub record CapAccepted (L weights lats work orders concentrations vectors : ℕ)
   pub of-orders : tableSize L ≤ orders
   pub of-concentrations : tableSize L ≤ concentrations
   pub of-vectors : vectorsSize L ≤ vectors
-
-different : {a b : ℕ} → (a ≡ b → ⊥) → not (eqb a b) ≡ true
-different {a} {b} h = ap not (ne-eqb a b h)
-
-equal : {a b : ℕ} → a ≡ b → not (eqb a b) ≡ false
-equal {a} {b} h = ap not (eq-eqb a b h)
-
-stop : {ground : Bool} (e : Refusal) (other : Answer) → ground ≡ true → Refused e ≡ refuse ground e other
-stop e other h = sym (refuse-yes e other h)
-
-pass : {ground : Bool} (e : Refusal) {other x : Answer} → ground ≡ false → x ≡ other → x ≡ refuse ground e other
-pass e {other} h g = g ∙ sym (refuse-no e other h)
 
 module _ (L weights lats work orders concentrations vectors : ℕ) where
   abbrev answer : Answer

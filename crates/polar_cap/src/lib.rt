@@ -1,16 +1,47 @@
 // The Slepian functions of a polar cap, best concentrated first (Simons, Dahlen & Wieczorek 2006).
-pub mod cap;
-pub mod polar;
+mod cap;
+mod polar;
 
 use refusal::Answer;
 ghost use mathlib.Core.Path.{_≡_};
+ghost use Prim.Native.Nat.{_≤_};
 ghost use lib.ListN.{length};
 ghost use lib.Ieee.{nan};
 ghost use Rattle.refusal.specs.Numbers.{after, behind};
 ghost use Rattle.storage.specs.Elements.{from};
 ghost use Rattle.storage.specs.Fill.{fill};
 ghost use Rattle.storage.specs.Triangle.{tableSize};
+ghost use Rattle.cap_functions.specs.CapPlaces.{Sized};
 ghost use Rattle.polar_cap.specs.PolarCap.{capCheck, capWork, capOrders, capConcentrations, capVectors, vectorsSize};
+
+// The highest degree of a cap's functions.
+pub const MAX_CAP: usize = 180;
+
+// How many functions there are and how many numbers their vectors have, where the concentrations stand in the working list, and how much of it is used.
+pub struct Sizes {
+    pub functions: usize,
+    pub numbers: usize,
+    pub at: usize,
+    pub work: usize,
+}
+
+// The sizes for a degree that is not refused: a kernel of the check, and of the call that tells lengths.
+pub fn cap_sizes(lmax: usize) -> Sizes
+    requires { ⌜ lmax ≤ 180 ⌝ }
+    ensures { λ r. ⌜ Sized lmax (r .functions) (r .numbers) (r .at) (r .work) ⌝ }
+{
+    let count = lmax + 1;
+    let product = count * (lmax + 2);
+    let functions = product / 2;
+    let numbers = product * (2 * lmax + 3) / 6;
+    let cells = count * count;
+    Sizes {
+        functions,
+        numbers,
+        at: functions + functions + (cells + 4 * count),
+        work: 3 * functions + 4 * cells + 5 * count + functions + functions + numbers,
+    }
+}
 
 // The Slepian functions to degree lmax of the polar cap whose angle has this cosine, best concentrated first: their orders, their concentrations, and
 // their coefficients of P(l, m) for l = m to lmax, end to end. The weights and the latitudes are those of the nodes over the cap.

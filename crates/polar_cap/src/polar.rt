@@ -1,4 +1,4 @@
-// The Slepian functions of a polar cap: the sizes of the call, its checks, and the arrays that it makes once and lends to every order.
+// The Slepian functions of a polar cap: the checks of the call, and the arrays that it makes once and lends to every order.
 use refusal::Answer;
 use refusal::Refusal;
 ghost use mathlib.Core.Path.{_≡_};
@@ -6,37 +6,9 @@ ghost use Prim.Native.Nat.{_+_, _≤_, _<_};
 ghost use lib.ListN.{length};
 ghost use Rattle.storage.specs.Triangle.{tableSize};
 ghost use Rattle.polar_cap.specs.PolarCap.{capCheck};
-ghost use Rattle.cap_functions.specs.CapPlaces.{Sized, CapRoom};
+ghost use Rattle.cap_functions.specs.CapPlaces.{CapRoom};
 ghost use Rattle.polar_cap.specs.CapChecks.{CapAccepted};
 ghost use Rattle.polar_cap.specs.CapStorage.{CapMade};
-
-// The highest degree of a cap's functions.
-pub const MAX_CAP: usize = 180;
-
-// How many functions there are and how many numbers their vectors have, where the concentrations stand in the working list, and how much of it is used.
-pub struct Sizes {
-    pub functions: usize,
-    pub numbers: usize,
-    pub at: usize,
-    pub work: usize,
-}
-
-pub fn cap_sizes(lmax: usize) -> Sizes
-    requires { ⌜ lmax ≤ 180 ⌝ }
-    ensures { λ r. ⌜ Sized lmax (r .functions) (r .numbers) (r .at) (r .work) ⌝ }
-{
-    let count = lmax + 1;
-    let product = count * (lmax + 2);
-    let functions = product / 2;
-    let numbers = product * (2 * lmax + 3) / 6;
-    let cells = count * count;
-    Sizes {
-        functions,
-        numbers,
-        at: functions + functions + (cells + 4 * count),
-        work: 3 * functions + 4 * cells + 5 * count + functions + functions + numbers,
-    }
-}
 
 // SIZE, LENGTH and SPACE, over the lengths of the lists.
 pub fn cap_check(
@@ -50,7 +22,7 @@ pub fn cap_check(
 ) -> Answer
     ensures { λ x. ⌜ x ≡ capCheck lmax weights latitudes work orders concentrations vectors ⌝ }
 {
-    if lmax > MAX_CAP {
+    if lmax > crate::MAX_CAP {
         return Answer::Refused(Refusal::Size);
     }
     let count = lmax + 1;
@@ -60,7 +32,7 @@ pub fn cap_check(
     if latitudes != count + count {
         return Answer::Refused(Refusal::Length);
     }
-    let sizes = cap_sizes(lmax);
+    let sizes = crate::cap_sizes(lmax);
     if work < sizes.work {
         return Answer::Refused(Refusal::Space);
     }
@@ -102,7 +74,7 @@ fn cap_in(
         (now (orders .entry)) (now (orders .exit)) (now (concentrations .entry)) (now (concentrations .exit))
         (now (vectors .entry)) (now (vectors .exit)) ⌝ }
 {
-    let sizes = cap_sizes(lmax);
+    let sizes = crate::cap_sizes(lmax);
     let total = sizes.functions;
     let at = sizes.at;
     recursion::tables(lmax, total, work);

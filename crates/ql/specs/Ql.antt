@@ -6,15 +6,12 @@ use Prim.Native.Nat.{ℕ, _+_, _-_}
 use lib.Dec.{eqb}
 use lib.ListN.{getD, set}
 use lib.Ieee.{Float, nan, lt, le, eq, neg}
-use Rattle.number.specs.Float64.{_⊕_, _⊖_, _⊗_, _⊘_, double, zero64, one64}
+use Rattle.number.specs.Float64.{_⊕_, _⊖_, _⊗_, _⊘_, double, zero64, one64, two64}
 use Rattle.number.specs.Sign.{magnitudeOf}
 use Rattle.number.specs.Hypot.{hypotOf}
 use Rattle.storage.specs.Iterate.{iterate, iterateUntil, iterateDown}
 use Rattle.matrix.specs.Matrix.{rotateColumns}
 use Rattle.ql.specs.declared.Rotation.{Rotation}
-
-abbrev two64 : Float
-two64 = double 0x4000_0000_0000_0000
 
 -- 2^-52
 abbrev pub epsilon64 : Float

@@ -9,9 +9,6 @@ ghost use Rattle.quadrature.specs.Gauss.{legendre, corrected, unlessSett
 ghost use Rattle.quadrature.specs.Gauss.{mirrorFrom, lowerFrom};
 ghost use Rattle.quadrature.specs.GaussLaws.{FourStored};
 
-// The most nodes of a rule.
-pub const MAX_NODES: usize = 2701;
-
 // P_(n−1) and P_n at one place.
 struct Polynomials {
     p0: f64,

@@ -2,9 +2,8 @@
 // comparisons.
 ghost use mathlib.Core.Path.{_≡_};
 ghost use Prim.Native.Nat.{ℕ, _+_, _-_, _≤_, _<_};
-ghost use lib.ListN.{length, getD};
+ghost use lib.ListN.{length};
 ghost use lib.Seq.{slice};
-ghost use lib.Ieee.{nan};
 ghost use Rattle.number.specs.Ranking.{merge};
 ghost use Rattle.storage.specs.Elements.{from};
 ghost use Rattle.storage.specs.Filled.{Filled};
@@ -20,17 +19,6 @@ pub struct Taken {
     pub j: usize,
 }
 
-// The key at a place, and NaN past the last.
-fn key(keys: &[f64], place: usize) -> f64
-    ensures { λ r. ⌜ r ≡ getD (now (keys .entry)) place nan ⌝ }
-{
-    if place < keys.len() {
-        keys[place]
-    } else {
-        0.0 / 0.0
-    }
-}
-
 // The next of two runs that are merged: of equals the one of the first run.
 fn next(i: usize, mid: usize, j: usize, hi: usize, keys: &[f64], src: &[usize]) -> Taken
     requires { ⌜ i ≤ mid ⌝ ∗ ⌜ mid ≤ j ⌝ ∗ ⌜ j ≤ hi ⌝ ∗ ⌜ hi ≤ length (now src) ⌝ ∗ ⌜ i + j < mid + hi ⌝ }
@@ -44,7 +32,10 @@ fn next(i: usize, mid: usize, j: usize, hi: usize, keys: &[f64], src: &[usize]) 
     }
     let first = src[i];
     let second = src[j];
-    if number::ranks_before(key(keys, second), key(keys, first)) {
+    if number::ranks_before(
+        number::element_or_nan(keys, second),
+        number::element_or_nan(keys, first),
+    ) {
         return Taken { at: j, i, j: j + 1 };
     }
     Taken { at: i, i: i + 1, j }

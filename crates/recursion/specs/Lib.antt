@@ -1,3 +1,4 @@
 pub mod Recursion
 pub mod RecursionLaws
 pub mod Tables
+pub mod Pole

@@ -8,16 +8,10 @@ use mathlib.Core.List.{List}
 use lib.Dec.{ltb, eqb}
 use lib.ListN.{take}
 use lib.Ieee.{Float}
-use Rattle.number.specs.Float64.{_⊕_, _⊖_, _⊗_, _⊘_, double, ofWhole, zero64, one64}
+use Rattle.number.specs.Float64.{_⊕_, _⊖_, _⊗_, _⊘_, double, ofWhole, zero64, one64, two64, three64}
 use Rattle.number.specs.Root.{rootOf}
 use Rattle.storage.specs.Fill.{fill, fill-join, fill-same, take-fill}
 use Rattle.storage.specs.Triangle.{idx, tableSize, along, row-start-monotone, along-same}
-
-abbrev pub two64 : Float
-two64 = double 0x4000_0000_0000_0000
-
-abbrev pub three64 : Float
-three64 = double 0x4008_0000_0000_0000
 
 -- 1e-280, the scale that keeps the recursion from overflow
 abbrev pub scale64 : Float

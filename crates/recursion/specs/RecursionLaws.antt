@@ -3,10 +3,10 @@ use mathlib.Core.Path.{_≡_, refl}
 use Prim.Native.Nat.{ℕ, _+_, _≤_, _<_}
 use native.Mathlib.Omega.{arith}
 use lib.Ieee.{Float}
-use Rattle.number.specs.Float64.{_⊕_, _⊖_, _⊗_, _⊘_, ofWhole, zero64, one64}
+use Rattle.number.specs.Float64.{_⊕_, _⊖_, _⊗_, _⊘_, ofWhole, zero64, one64, two64, three64}
 use Rattle.number.specs.Root.{rootOf}
 use borrow.Author.Tests.{lt-ltb, le-ltb}
-use Rattle.recursion.specs.Recursion.{aCell, bCell, two64, three64}
+use Rattle.recursion.specs.Recursion.{aCell, bCell}
 
 pub a-below : (n m : ℕ) {mf : Float} → mf ≡ ofWhole m → m < n
     → rootOf ((two64 ⊗ ofWhole n ⊖ one64) ⊗ (two64 ⊗ ofWhole n ⊕ one64) ⊘ ((ofWhole n ⊖ mf) ⊗ (ofWhole n ⊕ mf))) ≡ aCell n m

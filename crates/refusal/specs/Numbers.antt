@@ -1,7 +1,8 @@
 -- Document 01's number of each refusal, and what a place holds after a call that may be refused. Assumes nothing.
-use mathlib.Core.Path.{_≡_, refl}
+use mathlib.Core.Path.{_≡_, refl, sym, subst, _∙_}
 use mathlib.Core.Bool.{Bool, true, false, cond}
 use Prim.Native.Nat.{ℕ}
+use native.Mathlib.Omega.{arith}
 use mathlib.Core.List.{List}
 use lib.ListN.{drop}
 use lib.Ieee.{Float}
@@ -33,10 +34,33 @@ abbrev pub valueNumber : Number → ℕ
 valueNumber (Value x) = 0
 valueNumber (NoValue e) = refusalNumber e
 
+-- no refusal has the number 0
+pub refusal-above-0 : (e : Refusal) → refusalNumber e ≡ 0 → ⊥
+refusal-above-0 Size h = omega (arith, h)
+refusal-above-0 Length h = omega (arith, h)
+refusal-above-0 Space h = omega (arith, h)
+refusal-above-0 Place h = omega (arith, h)
+refusal-above-0 Love h = omega (arith, h)
+refusal-above-0 Short h = omega (arith, h)
+refusal-above-0 Kind h = omega (arith, h)
+refusal-above-0 After h = omega (arith, h)
+refusal-above-0 Tide h = omega (arith, h)
+
+-- so 0 tells that a call is done
+pub done-by-number : (a : Answer) → answerNumber a ≡ 0 → a ≡ Done
+done-by-number Done h = refl
+done-by-number (Refused e) h = absurd (refusal-above-0 e h)
+
 -- what a single number that was lent for the value holds afterwards
 abbrev pub valueAfter : Number → Float → Float
 valueAfter (Value x) old = x
 valueAfter (NoValue e) old = old
+
+-- what holds of every value that is answered holds of the number that was lent, where the call's number is 0
+pub value-by-number : (P : Float → Type 0) (a : Number) (old : Float) {x : ℕ} {now : Float} → x ≡ valueNumber a → now ≡ valueAfter a old
+    → ((v : Float) → a ≡ Value v → P v) → x ≡ 0 → P now
+value-by-number P (Value v) old p q holds h = subst P (sym q) (holds v refl)
+value-by-number P (NoValue e) old p q holds h = absurd (refusal-above-0 e (sym p ∙ h))
 
 -- what a list holds after a call that answered: what the work makes of it, or, refused, what it held
 abbrev pub after {ℓ} : {A : Type ℓ} → Answer → A → A → A

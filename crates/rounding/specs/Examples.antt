@@ -32,7 +32,7 @@ unfolding gridAbsolute
 grid-absolute-2700 = refl
 
 -- ---- the terms 2 * 3 * 1 and 2 * -5 * 0.5, each counted by itself: their sum is 1, their sizes add up to 11
-constant : ℕ → ℕ → ℕ → Float
+unfoldable pub constant : ℕ → ℕ → ℕ → Float
 constant b n m = ofBits binary64 b
 
 pair-sum : averagePair (constant 0x4008000000000000) (constant 0xc014000000000000) (constant 0x3ff0000000000000) (constant 0x3fe0000000000000)
@@ -46,7 +46,7 @@ unfolding averagePairSize averageTermC averageTermS constant exact ofBits
 pair-size = refl
 
 -- ---- an average and a grid value of degree 2, against bits that a processor computed in the order of the Rust's loops
-line : List ℕ → ℕ → Float
+unfoldable pub line : List ℕ → ℕ → Float
 line l m = ofBits binary64 (getD l m 0)
 
 table : List ℕ → ℕ → ℕ → Float

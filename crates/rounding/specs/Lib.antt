@@ -28,3 +28,4 @@ pub mod ExactTerms
 pub mod MarginArithmetic
 pub mod Theorems
 pub mod Examples
+pub mod Controls

@@ -1,6 +1,6 @@
 -- The checks that calls on tables share, in document 01's order, over the lengths of the lists, with one law for each way through them.
 -- Assumes nothing.
-use mathlib.Core.Path.{_≡_, refl, ap, _∙_}
+use mathlib.Core.Path.{_≡_, refl, sym, ap, _∙_}
 use mathlib.Core.Bool.{Bool, true, false, not}
 use mathlib.Core.List.{List}
 use Prim.Native.Nat.{ℕ, _≤_, _<_}
@@ -9,7 +9,7 @@ use lib.Dec.{T, ltb, eqb, eqb→eq, nltb→le}
 use lib.ListN.{length, getD}
 use lib.Ieee.{Float, nan}
 use borrow.Author.Tests.{lt-ltb, le-ltb, eq-eqb, ne-eqb}
-use Rattle.refusal.specs.Numbers.{refuse, refuseValue}
+use Rattle.refusal.specs.Numbers.{refuse, refuse-yes, refuse-no, refuseValue}
 use Rattle.refusal.specs.declared.Answer.{Answer}
 use Rattle.refusal.specs.declared.Answer.the-variants.{Done, Refused}
 use Rattle.refusal.specs.declared.Number.{Number}
@@ -60,6 +60,19 @@ valueAt list (Outside e) = NoValue e
 unfoldable pub entryAnswer : ℕ → List Float → ℕ → ℕ → Number
 entryAnswer nmax list n m =
     refuseValue (ltb 2700 nmax) Size (refuseValue (not (eqb (length list) (tableSize nmax))) Length (valueAt list (placeOf nmax n m)))
+
+-- ---- one check: it stops the call, or what comes after it answers
+pub stop : {ground : Bool} (e : Refusal) (other : Answer) → ground ≡ true → Refused e ≡ refuse ground e other
+stop e other h = sym (refuse-yes e other h)
+
+pub pass : {ground : Bool} (e : Refusal) {other x : Answer} → ground ≡ false → x ≡ other → x ≡ refuse ground e other
+pass e {other} h g = g ∙ sym (refuse-no e other h)
+
+pub different : {a b : ℕ} → (a ≡ b → ⊥) → not (eqb a b) ≡ true
+different {a} {b} h = ap not (ne-eqb a b h)
+
+pub equal : {a b : ℕ} → a ≡ b → not (eqb a b) ≡ false
+equal {a} {b} h = ap not (eq-eqb a b h)
 
 -- ---- one law for each way through the checks
 pub past : (ground : Bool) (e : Refusal) (a : Answer) → Done ≡ refuse ground e a → T (not ground) × (Done ≡ a)

@@ -1,6 +1,7 @@
 pub mod Elements
 pub mod Fill
 pub mod Filled
+pub mod Lanes
 pub mod Store
 pub mod Iterate
 pub mod Fold

@@ -3,11 +3,12 @@ use refusal::Answer;
 use refusal::Number;
 use refusal::Refusal;
 ghost use mathlib.Core.Path.{_≡_};
-ghost use Prim.Native.Nat.{ℕ, _≤_, min};
+ghost use Prim.Native.Nat.{ℕ, _+_, _≤_, min};
 ghost use lib.ListN.{length};
-ghost use Rattle.storage.specs.Answers.{sizeOf, placeOf};
+ghost use Rattle.storage.specs.Answers.{sizeOf, placeOf, indexNumber};
 ghost use Rattle.storage.specs.Elements.{zeroAt};
 ghost use Rattle.storage.specs.Filled.{Filled};
+ghost use Rattle.storage.specs.Lanes.{lane};
 ghost use Rattle.storage.specs.Checks.{tablesCheck, outputsCheck, entryAnswer};
 
 // The highest degree of a table.
@@ -17,6 +18,16 @@ pub const MAX_DEGREE: usize = 2700;
 pub enum Index {
     At(usize),
     Refused(Refusal),
+}
+
+// 0 where there is an index, else the number of the refusal.
+pub fn index_number(i: Index) -> u32
+    ensures { λ r. ⌜ r ≡ indexNumber i ⌝ }
+{
+    match i {
+        Index::At(_) => 0,
+        Index::Refused(e) => refusal::refusal_number(e),
+    }
 }
 
 // The number of entries of a table up to degree nmax: (nmax + 1)(nmax + 2) / 2, and 0 above the highest degree.
@@ -59,6 +70,33 @@ pub fn entry(nmax: usize, table: &[f64], n: usize, m: usize) -> Number
         Index::Refused(e) => Number::Refused(e),
         Index::At(k) => Number::Value(table[k]),
     }
+}
+
+// Eight numbers that are worked out side by side.
+pub struct Eight {
+    pub a: f64,
+    pub b: f64,
+    pub c: f64,
+    pub d: f64,
+    pub e: f64,
+    pub f: f64,
+    pub g: f64,
+    pub h: f64,
+}
+
+// Eight numbers, stored from index `at` on.
+pub fn store_eight(at: usize, v: Eight, out: &mut [f64])
+    requires { ⌜ at + 8 ≤ length (now out) ⌝ }
+    ensures { λ _. ⌜ Filled at (lane (v .a) (v .b) (v .c) (v .d) (v .e) (v .f) (v .g) (v .h)) 8 (now (out .entry)) (now (out .exit)) ⌝ }
+{
+    out[at] = v.a;
+    out[at + 1] = v.b;
+    out[at + 2] = v.c;
+    out[at + 3] = v.d;
+    out[at + 4] = v.e;
+    out[at + 5] = v.f;
+    out[at + 6] = v.g;
+    out[at + 7] = v.h;
 }
 
 // +0 at the first `size` indices.

@@ -1,15 +1,15 @@
 -- The checks of `grid`: one law for each way through them, and what passed checks tell. Assumes nothing.
-use mathlib.Core.Path.{_≡_, refl, sym, ap, _∙_}
+use mathlib.Core.Path.{_≡_, refl}
 use mathlib.Core.Bool.{Bool, true, false, not}
 use Prim.Native.Nat.{ℕ, _+_, _*_, _≤_, _<_}
-use lib.Dec.{T, ltb, eqb, nltb→le}
-use borrow.Author.Tests.{lt-ltb, le-ltb, eq-eqb, ne-eqb}
-use Rattle.refusal.specs.Numbers.{refuse, refuse-yes, refuse-no}
+use lib.Dec.{ltb, eqb, nltb→le}
+use borrow.Author.Tests.{lt-ltb, le-ltb}
+use Rattle.refusal.specs.Numbers.{refuse}
 use Rattle.refusal.specs.declared.Answer.{Answer}
 use Rattle.refusal.specs.declared.Answer.the-variants.{Done, Refused}
 use Rattle.refusal.specs.declared.Refusal.{Refusal}
 use Rattle.refusal.specs.declared.Refusal.the-variants.{Size, Length, Love, Space}
-use Rattle.storage.specs.Checks.{_andThen_, tablesCheck, Tables, tables-passed, both, past, same, refused-then, done-then}
+use Rattle.storage.specs.Checks.{_andThen_, tablesCheck, Tables, tables-passed, both, past, same, refused-then, done-then, stop, pass, equal, different}
 use Rattle.synthesis.specs.Grid.{gridCheck, workSize}
 
 -- what passed checks tell: a record, whose fields `omega` finds
@@ -21,18 +21,6 @@ pub record Accepted (nmax clen slen rows lats longitudes trig work out : ℕ) : 
   pub orders : trig ≡ longitudes * (nmax + nmax + 2)
   pub room-work : workSize nmax ≤ work
   pub room-out : rows * longitudes ≤ out
-
-different : {a b : ℕ} → (a ≡ b → ⊥) → not (eqb a b) ≡ true
-different {a} {b} h = ap not (ne-eqb a b h)
-
-equal : {a b : ℕ} → a ≡ b → not (eqb a b) ≡ false
-equal {a} {b} h = ap not (eq-eqb a b h)
-
-stop : {ground : Bool} (e : Refusal) (other : Answer) → ground ≡ true → Refused e ≡ refuse ground e other
-stop e other h = sym (refuse-yes e other h)
-
-pass : {ground : Bool} (e : Refusal) {other x : Answer} → ground ≡ false → x ≡ other → x ≡ refuse ground e other
-pass e {other} h g = g ∙ sym (refuse-no e other h)
 
 module _ (nmax clen slen rows lats longitudes trig : ℕ) (lacks : Bool) (work out : ℕ) where
   abbrev answer : Answer

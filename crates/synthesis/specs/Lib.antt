@@ -2,3 +2,4 @@ pub mod Grid
 pub mod Rows
 pub mod Checks
 pub mod Promise
+pub mod OtherRows

@@ -1,6 +1,6 @@
 // Values of a field on a grid of latitudes and longitudes.
-pub mod rows;
-pub mod workspace;
+mod rows;
+mod workspace;
 
 use coefficients::Head;
 use functional::Functional;

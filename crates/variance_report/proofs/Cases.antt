@@ -17,7 +17,7 @@ use Rattle.model_file.specs.declared.FileHead.{FileHead}
 use Rattle.model_file.specs.declared.Reading.{Reading}
 use Rattle.model_file.specs.declared.Reading.the-variants.{Model, Refused}
 use Rattle.model_file.specs.Format.{refuseReading, headOf, Parsed, model, fault, parse}
-use Rattle.model_file.specs.Answers.{readAnswer, afterRead, cOf, sOf}
+use Rattle.model_file.specs.Answers.{readOutcome, readAnswer, cOf, sOf}
 use Rattle.model_file.specs.RoundTrip.{accepted, parse-table}
 use Rattle.variance_report.specs.Report.{numbersOf, linesOf, titleText, refusedText, modelText, parsedText, reportOf, Prefix}
 use Rattle.variance_report.specs.ReportFront.{pairs-most}
@@ -120,7 +120,7 @@ module _ (b d d′ : List ℕ) (room : 1756 ≤ length d) (r : Reading) (er : r 
       told-body e n p en q = refused e n (report-is ∙ ap parsedText (refused-by-read (parse b) refl ea e p)) en q
 
       module _ (g : FileHead) (p : a ≡ Model g) (c₀ c₁ s₀ s₁ : List ℕ) (t : ℕ) (et : t ≡ sizeOf (h .nmax)) (lc : 3828 ≡ length c₀) (ls : 3828 ≡ length s₀)
-          (ec : c₁ ≡ afterRead a (store 0 (cOf (parse b)) c₀) c₀) (es : s₁ ≡ afterRead a (store 0 (sOf (parse b)) s₀) s₀) where
+          (ec : c₁ ≡ after (readOutcome a) (store 0 (cOf (parse b)) c₀) c₀) (es : s₁ ≡ after (readOutcome a) (store 0 (sOf (parse b)) s₀) s₀) where
         table : Read (parse b)
         table = accepted-by-read (parse b) refl ea g p
 
@@ -128,10 +128,10 @@ module _ (b d d′ : List ℕ) (room : 1756 ≤ length d) (r : Reading) (er : r 
         pairs = et ∙ size-is (h .nmax) (omega arith)
 
         c-is : c₁ ≡ store 0 (cOf (parse b)) c₀
-        c-is = ec ∙ ap (λ (x : Reading). afterRead x (store 0 (cOf (parse b)) c₀) c₀) p
+        c-is = ec ∙ ap (λ (x : Reading). after (readOutcome x) (store 0 (cOf (parse b)) c₀) c₀) p
 
         s-is : s₁ ≡ store 0 (sOf (parse b)) s₀
-        s-is = es ∙ ap (λ (x : Reading). afterRead x (store 0 (sOf (parse b)) s₀) s₀) p
+        s-is = es ∙ ap (λ (x : Reading). after (readOutcome x) (store 0 (sOf (parse b)) s₀) s₀) p
 
         c-lent : Lent t c₁
         c-lent = lent-stored (cOf (parse b)) c₀ c₁ t c-is (omega (arith, pairs, pairs-most (h .nmax) small))

@@ -2,6 +2,8 @@
 //! end; the result is the refusal's number, 0 where the call is done. A refused call writes nothing.
 
 unsafe extern "C" {
+    pub safe fn geopotential_version() -> u32;
+
     pub fn geopotential_factor(
         functional: u32,
         love: *const f64,

@@ -47,7 +47,7 @@ loop-again c =
     let l = c .before .before .before .before .before .before .loop in
     let four = c .before .before .before .before .four-orders .ensures in
     let v = lanes (a .values .now) (a .trig .now) four (l .m) (a .longitudes) refl (omega arith) (l .inv .1) in
-    (omega arith, omega arith, filled-to (filled-join (l .inv .2) (c .before .before .store-four .ensures) (omega arith) v) (omega arith))
+    (omega arith, omega arith, filled-to (filled-join (l .inv .2) (c .before .before .store-eight .ensures) (omega arith) v) (omega arith))
 
 same-length : tie.Need-same-length Inv-loop μ-loop
 same-length c = c .before .loop .inv .2 .long

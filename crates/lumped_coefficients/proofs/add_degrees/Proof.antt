@@ -26,7 +26,7 @@ within : (c : tie.In-loop Inv-loop μ-loop) →
     let loop = c .before .loop in
     let nmax = c .before .before .before .before .before .before .before .before .before .before .before .before .before .before .args .nmax in
     (loop .n < nmax) × (loop .at ≡ rowStart (loop .n)) × RowWithin (loop .n) nmax × RowWithin (loop .n + 1) nmax
-within c = (omega arith, c .before .loop .inv .4 .start, row-within _ _ (omega arith) (omega arith), row-within _ _ (omega arith) (omega arith))
+within c = (omega arith, c .before .loop .inv .4 .rows .start, row-within _ _ (omega arith) (omega arith), row-within _ _ (omega arith) (omega arith))
 
 add-degree-requires : tie.Need-add-degree-requires Inv-loop μ-loop
 add-degree-requires c κs =
@@ -125,7 +125,7 @@ add-degree-requires-3 c κs =
     let nmax = after .before .before .before .before .before .before .before .before .before .before .before .before .before .before .args .nmax in
     let pre = after .before .before .before .before .before .before .before .before .before .before .before .before .before .before .pre in
     let loop = after .before .loop in
-    let at = loop .inv .4 .start in
+    let at = loop .inv .4 .rows .start in
     omega (arith, row-within (loop .n) nmax (omega arith) (omega arith))
 
 same-length-6 : tie.Need-same-length-6 Inv-loop μ-loop

@@ -1,5 +1,5 @@
 -- `partials` meets its contract: past the checks it is a list of one point. Assumes nothing.
-use Rattle.partials.specs.Promise.{point-refused, rest-behind, one-point}
+use Rattle.partials.specs.Promise.{point-refused, one-point}
 use Rattle.partials.specs.Checks.{one-accepted}
 use native.Mathlib.Omega.{arith}
 use mathlib.Core.Path.{refl, sym, _∙_}
@@ -27,7 +27,7 @@ returns-2 c =
     let made = compute .ensures in (
       one-point (a .head .gm) (a .head .radius) (a .head .nmax) (a .c .now) (a .s .now) (a .trig .now) (a .r) (a .latitude .t) (a .latitude .u) d made
           (omega arith),
-      (rest-behind _ _ _ d (made .rest), made .long),
+      (made .rest, made .long),
     )
 
 pub partials-spec : {M : Type 1} → statement M

@@ -30,7 +30,7 @@ add-degree-requires c κs =
     let args = c1 .before .before .before .before .before .before .args in
     let loop-test = c .before .before .before .before .loop-test in
     let l = c .before .before .before .before .before .loop in
-    omega (arith, within (l .n) (args .nmax) (loop-test .taken) (pre .0 .top), pre .0, pre .1 .0, l .inv, l .inv .5 .start)
+    omega (arith, within (l .n) (args .nmax) (loop-test .taken) (pre .0 .top), pre .0, pre .1 .0, l .inv, l .inv .5 .rows .start)
 
 add-at-odd : tie.Need-add-at-odd Inv-loop μ-loop
 add-at-odd c =
@@ -40,7 +40,7 @@ add-at-odd c =
     let args = c2 .before .args in
     let loop-test = c .before .before .before .before .before .before .before .before .before .before .before .loop-test in
     let l = c1 .loop in
-    omega (arith, within (l .n) (args .nmax) (loop-test .taken) (pre .0 .top), l .inv .5 .start)
+    omega (arith, within (l .n) (args .nmax) (loop-test .taken) (pre .0 .top), l .inv .5 .rows .start)
 
 add-at-odd-2 : tie.Need-add-at-odd-2 Inv-loop μ-loop
 add-at-odd-2 c =
@@ -50,7 +50,7 @@ add-at-odd-2 c =
     let args = c2 .before .args in
     let loop-test = c .before .before .before .before .before .before .before .before .before .before .before .loop-test in
     let l = c1 .loop in
-    omega (arith, within (l .n) (args .nmax) (loop-test .taken) (pre .0 .top), l .inv .5 .start)
+    omega (arith, within (l .n) (args .nmax) (loop-test .taken) (pre .0 .top), l .inv .5 .rows .start)
 
 add-add-degree : tie.Need-add-add-degree Inv-loop μ-loop
 add-add-degree c =
@@ -60,7 +60,7 @@ add-add-degree c =
     let args = c2 .before .args in
     let loop-test = c .before .before .before .before .before .before .before .before .before .before .before .loop-test in
     let l = c1 .loop in
-    omega (arith, within (l .n) (args .nmax) (loop-test .taken) (pre .0 .top), l .inv .5 .start)
+    omega (arith, within (l .n) (args .nmax) (loop-test .taken) (pre .0 .top), l .inv .5 .rows .start)
 
 add-degree-requires-2 : tie.Need-add-degree-requires-2 Inv-loop μ-loop
 add-degree-requires-2 c κs =
@@ -73,7 +73,7 @@ add-degree-requires-2 c κs =
     let l = c1 .before .before .before .before .loop in
     let f = add-degree .ensures in
     let rows = within (l .n) (args .nmax) (loop-test .taken) (pre .0 .top) in
-    omega (arith, rows, pre .0, pre .1 .0, l .inv, l .inv .5 .start, f .0 .long, f .1 .0 .long, f .1 .1 .0 .long)
+    omega (arith, rows, pre .0, pre .1 .0, l .inv, l .inv .5 .rows .start, f .0 .long, f .1 .0 .long, f .1 .1 .0 .long)
 
 add-at : tie.Need-add-at Inv-loop μ-loop
 add-at c =
@@ -84,7 +84,7 @@ add-at c =
     let args = c3 .args in
     let loop-test = c1 .before .before .before .before .before .before .before .before .before .before .loop-test in
     let l = c1 .before .before .before .before .before .before .before .before .before .before .before .loop in
-    omega (arith, within (l .n) (args .nmax) (loop-test .taken) (pre .0 .top), l .inv .5 .start)
+    omega (arith, within (l .n) (args .nmax) (loop-test .taken) (pre .0 .top), l .inv .5 .rows .start)
 
 add-at-2 : tie.Need-add-at-2 Inv-loop μ-loop
 add-at-2 c =
@@ -95,7 +95,7 @@ add-at-2 c =
     let args = c3 .args in
     let loop-test = c1 .before .before .before .before .before .before .before .before .before .before .loop-test in
     let l = c1 .before .before .before .before .before .before .before .before .before .before .before .loop in
-    omega (arith, within (l .n) (args .nmax) (loop-test .taken) (pre .0 .top), l .inv .5 .start)
+    omega (arith, within (l .n) (args .nmax) (loop-test .taken) (pre .0 .top), l .inv .5 .rows .start)
 
 add-n : tie.Need-add-n Inv-loop μ-loop
 add-n c =
@@ -166,7 +166,7 @@ add-degree-requires-3 c κs =
     let l = c .before .before .before .before .before .before .loop in
     let room = pre .0 in
     let row = row-within (l .n) (args .nmax) (omega arith) (room .top) in
-    omega (arith, row, room, pre .1 .0, l .inv, l .inv .5 .start)
+    omega (arith, row, room, pre .1 .0, l .inv, l .inv .5 .rows .start)
 
 same-length-5 : tie.Need-same-length-5 Inv-loop μ-loop
 same-length-5 c =

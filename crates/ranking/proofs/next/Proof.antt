@@ -19,14 +19,14 @@ returns-3 : tie.Need-returns-3
 unfolding keyBefore
 returns-3 c =
     second-of-both _ _ _ _ _ _ (omega arith) (omega arith) (omega arith) (omega arith)
-    (sym (ap₂ (λ (x y : Float). ranksBefore x y) (c .before .before .before .key .ensures) (c .before .before .key2 .ensures)) ∙ sym
+    (sym (ap₂ (λ (x y : Float). ranksBefore x y) (c .before .before .before .element-or-nan .ensures) (c .before .before .element-or-nan2 .ensures)) ∙ sym
     (c .before .ranks-before .ensures) ∙ c .if3 .taken)
 
 returns-4 : tie.Need-returns-4
 unfolding keyBefore
 returns-4 c =
     first-of-both _ _ _ _ _ _ (omega arith) (omega arith) (omega arith) (omega arith)
-    (sym (ap₂ (λ (x y : Float). ranksBefore x y) (c .before .before .before .key .ensures) (c .before .before .key2 .ensures)) ∙ sym
+    (sym (ap₂ (λ (x y : Float). ranksBefore x y) (c .before .before .before .element-or-nan .ensures) (c .before .before .element-or-nan2 .ensures)) ∙ sym
     (c .before .ranks-before .ensures) ∙ c .if3 .left)
 
 pub next-spec : {M : Type 1} → statement M

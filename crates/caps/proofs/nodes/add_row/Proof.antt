@@ -1,5 +1,6 @@
 -- `add_row` meets its contract: the numbers below j are added. Assumes nothing.
 use Rattle.caps.specs.Nodes.{addedCell, row-next}
+use Rattle.number.specs.Float64.{_⊗_}
 use Rattle.storage.specs.Filled.{Filled, filled-none, filled-more, filled-to}
 use native.Mathlib.Omega.{arith}
 use mathlib.Core.Path.{refl}
@@ -8,10 +9,10 @@ use Rattle.caps.proofs.nodes.add_row.Statement.{statement}
 use Rattle.caps.proofs.nodes.add_row.Tie as tie
 
 abbrev Inv-loop : tie.InvT-loop
-Inv-loop k at y col work₀ j₀ work j = (j ≤ k) × Filled at (addedCell y col work₀ at) j work₀ work
+Inv-loop k at x p col work₀ j₀ work j = (j ≤ k) × Filled at (addedCell (x ⊗ p) col work₀ at) j work₀ work
 
 abbrev μ-loop : tie.MeasureT-loop
-μ-loop k at y col work₀ j₀ work j = k - j
+μ-loop k at x p col work₀ j₀ work j = k - j
 
 loop-holds : tie.Need-loop-holds Inv-loop μ-loop
 loop-holds c = (omega arith, filled-none)

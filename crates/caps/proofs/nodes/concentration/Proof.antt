@@ -2,7 +2,6 @@
 use Rattle.caps.specs.Nodes.{partialCell, nodes-none, nodes-more, nodes-all, tables-kept, room-kept}
 use Rattle.storage.specs.Filled.{Filled, filled-self, filled-in, filled-again}
 use Rattle.storage.specs.Rectangle.{byRows}
-use Rattle.legendre.specs.Directions.{rowSine}
 use Rattle.number.specs.Float64.{_⊗_}
 use native.Mathlib.Nat.{zero-add, le-refl}
 use lib.ListN.{getD}
@@ -56,8 +55,10 @@ node-requires c κs =
       ),
     )
 
+add-i : tie.Need-add-i Inv-loop μ-loop
+add-i c = omega (arith, c .before .before .before .before .before .before .before .before .before .before .loop-test .taken, c .before .before .before .before .before .before .before .before .before .before .before .before .before .before .before .before .before .before .before .before .before .before .pre .1 .1 .0 .small, c .before .before .before .before .before .before .before .before .before .before .before .before .before .before .before .before .before .before .before .before .before .before .pre .1 .1 .1 .1 .0)
+
 loop-again : tie.Need-loop-again Inv-loop μ-loop
-unfolding rowSine
 loop-again c =
     let c1 = c .before .before .before .before .before .before .before .before .before .before .before .before in
     let a = c1 .before .before .before .before .before .before .before .before .before .before .args in
@@ -77,7 +78,7 @@ loop-again c =
       nodes-more (a .lmax) (a .m) (a .k) (a .total) (a .at) (a .x0) (a .weights .now) (a .latitudes .now)
           (c .before .before .before .before .before .before .before .before .before .before .before .loop .i)
           (c .before .before .before .before .before .before .before .before .before .before .before .loop .inv .2)
-          (omega (arith, r .matrix, c1 .before .before .clear .ensures .long)) tables (q .1 .0) refl x (ap (λ (v : Float). v ⊗ getD
+          (omega (arith, r .matrix, c1 .before .before .clear .ensures .long)) tables (q .1 .0) (c .before .before .before .before .before .before .before .before .before .latitude-of .ensures .0) x (ap (λ (v : Float). v ⊗ getD
           (a .weights .now) (c .before .before .before .before .before .before .before .before .before .before .before .loop .i) nan)
           (c1 .before .before .before .before .factor .ensures))
           (c .before .before .before .before .node .ensures .0),
@@ -102,6 +103,6 @@ returns c =
 pub concentration-spec : {M : Type 1} → statement M
 concentration-spec =
     tie.close
-    (tie.spec Inv-loop μ-loop (λ c κs. search needs) clear-requires loop-holds (λ c. omega arith) (λ c. omega arith) (λ c. omega arith) (λ c. omega arith)
-    (λ c. omega arith) (λ c. omega arith) (λ c. omega arith) node-requires (λ c. omega arith) (λ c. omega arith) loop-again same-length same-length-2
+    (tie.spec Inv-loop μ-loop (λ c κs. search needs) clear-requires loop-holds (λ c κs. omega arith) (λ c. omega arith) (λ c. omega arith) (λ c. omega arith)
+    (λ c. omega arith) node-requires add-i (λ c. omega arith) loop-again same-length same-length-2
     returns)

@@ -1,11 +1,12 @@
 -- `next_rescales` meets its contract: the powers of the nodes below i are the next ones. Assumes nothing.
 use Rattle.caps.specs.Nodes.{nextRescale}
 use Rattle.storage.specs.Filled.{Filled, filled-none, filled-more, filled-to, filled-after}
+use Rattle.legendre.specs.Directions.{rowCosine}
 use Rattle.number.specs.Float64.{_⊗_}
-use lib.ListN.{getD}
 use lib.Ieee.{Float, nan}
+use borrow.Author.Needs.{needs}
 use native.Mathlib.Omega.{arith}
-use mathlib.Core.Path.{ap}
+use mathlib.Core.Path.{ap₂}
 use Prim.Native.Nat.{_+_, _-_, _≤_}
 use Rattle.caps.proofs.nodes.next_rescales.Statement.{statement}
 use Rattle.caps.proofs.nodes.next_rescales.Tie as tie
@@ -20,13 +21,11 @@ loop-holds : tie.Need-loop-holds Inv-loop μ-loop
 loop-holds c = (omega arith, filled-none)
 
 loop-again : tie.Need-loop-again Inv-loop μ-loop
-unfolding nextRescale
+unfolding nextRescale rowCosine
 loop-again c = (
   omega arith,
-  filled-more (c .before .before .before .loop .inv .1) (omega arith)
-      (ap (λ (v : Float). v ⊗ getD (c .before .before .before .before .args .latitudes .now)
-      (c .before .before .before .loop .i + c .before .before .before .loop .i + 1) nan) (filled-after (c .before .before .before .loop .i) nan
-      (c .before .before .before .loop .inv .1) (omega arith))),
+  filled-more (c .before .before .before .before .loop .inv .1) (omega arith)
+      (ap₂ (λ (v w : Float). v ⊗ w) (filled-after (c .before .before .before .before .loop .i) nan (c .before .before .before .before .loop .inv .1) (omega arith)) (c .before .before .latitude-of .ensures .1)),
 )
 
 same-length : tie.Need-same-length Inv-loop μ-loop
@@ -38,5 +37,5 @@ returns c = filled-to (c .before .loop .inv .1) (omega arith)
 pub next-rescales-spec : {M : Type 1} → statement M
 next-rescales-spec =
     tie.close
-    (tie.spec Inv-loop μ-loop loop-holds (λ c. omega arith) (λ c. omega arith) (λ c. omega arith) (λ c. omega arith) (λ c. omega arith) (λ c. omega arith)
-    (λ c. omega arith) (λ c. omega arith) (λ c. omega arith) (λ c. omega arith) loop-again same-length returns)
+    (tie.spec Inv-loop μ-loop loop-holds (λ c κs. omega arith) (λ c. omega arith) (λ c. omega arith) (λ c. omega arith) (λ c. omega arith) (λ c. omega arith)
+    (λ c. omega arith) loop-again same-length returns)

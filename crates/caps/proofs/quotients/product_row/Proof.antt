@@ -1,10 +1,11 @@
 -- `product_row` meets its contract: the first j products of each column are added. Assumes nothing.
+use Rattle.number.specs.Identities.{times-one}
 use Rattle.caps.specs.Quotients.{rowSum, row-none, row-more, row-all}
 use Rattle.storage.specs.Filled.{Filled, filled-self, filled-again}
 use native.Mathlib.Nat.{le-refl, mul-le-mul-right}
 use native.Mathlib.Omega.{arith}
 use mathlib.Core.Path.{_≡_, refl, _∙_}
-use Prim.Native.Nat.{_-_, _*_, _≤_}
+use Prim.Native.Nat.{_+_, _-_, _*_, _≤_}
 use lib.ListN.{length}
 use Rattle.caps.proofs.quotients.product_row.Statement.{statement}
 use Rattle.caps.proofs.quotients.product_row.Tie as tie
@@ -75,7 +76,8 @@ loop-again c =
           (c .before .before .before .before .before .before .before .loop .at) (length
           (c1 .before .before .before .args .vectors .now) - c .before .before .before .before .before .before .before .loop .at)
           (c .before .before .before .before .before .before .before .loop .inv .1) (omega
-          (arith, up, c .before .before .before .before .before .before .before .loop .inv .1, c1 .before .before .before .pre .1 .1 .0)) refl
+          (arith, up, c .before .before .before .before .before .before .before .loop .inv .1, c1 .before .before .before .pre .1 .1 .0))
+          (times-one _ (c .before .before .before .before .before .before .before .before .before .before .before .before .before .before .shared-slice-known .given (c .before .before .before .before .before .before .before .before .before .before .before .before .before .before .before .args .row + c .before .before .before .before .before .before .before .loop .j)))
           (omega (
             arith,
             c .before .before .before .before .before .before .before .before .before .before .clear .ensures .long,

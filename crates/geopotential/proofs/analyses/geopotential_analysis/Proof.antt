@@ -34,7 +34,7 @@ returns-2 c =
     let f = c .before .before .before .before .before .before .before .analysis .ensures in
     analysis-known _ _ _ _ _ _ _ _ _ _ _ _ _ _ _ _ _ (c1 .if1 .left)
     (c .before .before .before .before .before .before .before .before .before .before .before .functional-of .ensures) (f .0)
-    (c .model-number .ensures) (f .1 .0) (f .1 .1 .0) (f .1 .1 .1 .0)
+    (c .model-number .ensures) (f .1 .0) (f .1 .1 .0) (f .1 .1 .1 .0) (f .1 .1 .1 .1)
 
 pub geopotential-analysis-spec : {M : Type 1} → statement M
 geopotential-analysis-spec =

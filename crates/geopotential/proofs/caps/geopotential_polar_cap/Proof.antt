@@ -34,7 +34,7 @@ returns c =
     let f = c .before .before .before .before .before .before .before .before .before .polar-cap in
     let e = f .ensures .0 in (
       rw (← e) (c .answer-number .ensures),
-      (rw (← e) (f .ensures .1 .0), (rw (← e) (f .ensures .1 .1 .0), (rw (← e) (f .ensures .1 .1 .1 .0), rw (← e) (f .ensures .1 .1 .1 .1 .0)))),
+      (rw (← e) (f .ensures .1 .0), (rw (← e) (f .ensures .1 .1 .0), (rw (← e) (f .ensures .1 .1 .1 .0), (rw (← e) (f .ensures .1 .1 .1 .1 .0), f .ensures .1 .1 .1 .1 .1)))),
     )
 
 pub geopotential-polar-cap-spec : {M : Type 1} → statement M

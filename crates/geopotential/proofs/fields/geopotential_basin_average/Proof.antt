@@ -11,6 +11,7 @@ returns-2 : tie.Need-returns-2
 unfolding basinAnswer
 returns-2 c =
     basin-known _ _ _ _ _ _ _ _ _ _ _ _ (c .before .before .before .before .if1 .left) (c .before .before .before .functional-of .ensures) (c .before .before .basin-average .ensures .0) (c .hand-on .ensures .0) (c .hand-on .ensures .1)
+    (c .before .before .basin-average .ensures .1)
 
 pub geopotential-basin-average-spec : {M : Type 1} → statement M
 geopotential-basin-average-spec = tie.close (tie.spec returns (λ c κs. search needs) (λ c κs. search needs) (λ c κs. search needs) returns-2)

@@ -13,7 +13,8 @@ returns-2 : tie.Need-returns-2
 unfolding gridAnswer
 returns-2 c =
     grid-known _ _ _ _ _ _ _ _ _ _ _ _ _ _ _ (c .before .before .before .before .before .before .before .before .before .if1 .left) (c .before .before .before .before .before .before .before .before .functional-of .ensures) (c .before .before .before .before .before .grid .ensures .0) (c .answer-number .ensures) (c .before .before .before .before .before .grid .ensures .1 .0)
-    (c .before .before .before .before .before .grid .ensures .1 .1 .0)
+    (c .before .before .before .before .before .grid .ensures .1 .1 .0) (c .before .before .before .before .before .grid .ensures .1 .1 .1 .0)
+    (c .before .before .before .before .before .grid .ensures .1 .1 .1 .1)
 
 same-length : tie.Need-same-length
 same-length c = c .before .before .before .before .before .grid .ensures .1 .1 .1 .0

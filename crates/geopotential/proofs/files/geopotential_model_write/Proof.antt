@@ -23,7 +23,7 @@ returns-2 : tie.Need-returns-2
 unfolding with-tide
 returns-2 c =
     let a = c .before .before .before .before .before .before .before .before .before .before .args in
-    write-model _ _ _ _ _ _ _ (c .before .before .before .before .before .before .if1 .left) (ap (with-tide (a .gm) (a .radius) (a .nmax)) (c .before .before .before .before .before .tide-system .ensures)) (c .before .before .before .write .ensures .0)
+    write-model _ _ _ _ _ _ _ (c .before .before .before .before .before .before .if1 .left) (ap (with-tide (a .gm) (a .radius) (a .nmax)) (c .before .before .before .before .before .tide-of .ensures)) (c .before .before .before .write .ensures .0)
     (c .answer-number .ensures) (c .before .before .before .write .ensures .1)
 
 pub geopotential-model-write-spec : {M : Type 1} → statement M

@@ -26,7 +26,7 @@ returns : tie.Need-returns
 returns c =
     let f = c .before .before .before .before .before .before .before .householder-ql in
     let e = f .ensures .0 in
-    (rw (← e) (c .answer-number .ensures), (rw (← e) (f .ensures .1 .0), (rw (← e) (f .ensures .1 .1 .0), rw (← e) (f .ensures .1 .1 .1 .0))))
+    (rw (← e) (c .answer-number .ensures), (rw (← e) (f .ensures .1 .0), (rw (← e) (f .ensures .1 .1 .0), (rw (← e) (f .ensures .1 .1 .1 .0), f .ensures .1 .1 .1 .1))))
 
 pub geopotential-householder-ql-spec : {M : Type 1} → statement M
 geopotential-householder-ql-spec =

@@ -31,7 +31,7 @@ returns c =
             (f .ensures .1 .0
             ∙ ap (λ (o : List Float). after (f .result) o (a .out .now)) (one-point (a .gm) (a .radius) (a .nmax) (a .c .now) (a .s .now) (a .trig .now)
             (a .r) (a .t) (a .u) (a .out .now))),
-        rw (← e) (f .ensures .1 .1 .0),
+        (rw (← e) (f .ensures .1 .1 .0), f .ensures .1 .1 .1),
       ),
     )
 

@@ -24,7 +24,7 @@ within : (c : tie.In-loop Inv-loop μ-loop) →
     let loop = c .before .loop in
     let nmax = c .before .before .before .before .before .before .before .before .before .before .before .args .nmax in
     (loop .n < nmax) × (loop .at ≡ rowStart (loop .n)) × RowWithin (loop .n) nmax × RowWithin (loop .n + 1) nmax
-within c = (omega arith, c .before .loop .inv .3 .start, row-within _ _ (omega arith) (omega arith), row-within _ _ (omega arith) (omega arith))
+within c = (omega arith, c .before .loop .inv .3 .rows .start, row-within _ _ (omega arith) (omega arith), row-within _ _ (omega arith) (omega arith))
 
 add-degree-requires : tie.Need-add-degree-requires Inv-loop μ-loop
 add-degree-requires c κs =
@@ -111,7 +111,7 @@ add-degree-requires-3 c κs =
     let c1 = c .before .before .before .before .before .before .before .before .before .before .before .before in
     let pre = c1 .before .before .before .before .pre in
     let loop = c .before .before .before .before .before .before .loop in
-    let start = loop .inv .3 .start in
+    let start = loop .inv .3 .rows .start in
     omega (arith, row-within (loop .n) (c1 .before .before .before .before .args .nmax) (omega arith) (omega arith))
 
 same-length-5 : tie.Need-same-length-5 Inv-loop μ-loop

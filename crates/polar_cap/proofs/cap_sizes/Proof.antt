@@ -1,10 +1,10 @@
--- `polar::cap_sizes` meets its contract: no product is too large. Assumes nothing.
+-- `cap_sizes` meets its contract: no product is too large. Assumes nothing.
 use native.Mathlib.Omega.{arith}
 use mathlib.Core.Path.{refl}
 use Rattle.cap_functions.specs.CapPlaces.{products, sized}
 use borrow.Author.Needs.{needs}
-use Rattle.polar_cap.proofs.polar.cap_sizes.Statement.{statement}
-use Rattle.polar_cap.proofs.polar.cap_sizes.Tie as tie
+use Rattle.polar_cap.proofs.cap_sizes.Statement.{statement}
+use Rattle.polar_cap.proofs.cap_sizes.Tie as tie
 
 mul-product : tie.Need-mul-product
 mul-product c = let p = products (c .args .lmax) (omega arith) in omega (arith, p .square, p .two, p .three)

@@ -1,6 +1,7 @@
+-- `tide_of` meets its contract. Assumes nothing.
 use borrow.Author.Tests.{eq-eqb, ne-eqb}
-use Rattle.model_file.proofs.tide_of.Statement.{statement}
-use Rattle.model_file.proofs.tide_of.Tie as tie
+use Rattle.coefficients.proofs.tide_of.Statement.{statement}
+use Rattle.coefficients.proofs.tide_of.Tie as tie
 
 returns : tie.Need-returns
 returns c = simp (eq-eqb _ _ (c .if1 .taken))

@@ -1,12 +1,12 @@
--- `store_four` meets its contract: one store after the other. Assumes nothing.
-use Rattle.fourier_analysis.specs.Longitudes.{lane}
+-- `store_eight` meets its contract: one store after the other. Assumes nothing.
+use Rattle.storage.specs.Lanes.{lane}
 use Rattle.storage.specs.Filled.{filled-one, filled-more}
 use lib.ListN.{length-set}
 use native.Mathlib.Omega.{arith}
 use mathlib.Core.Path.{refl}
 use borrow.Author.Needs.{needs}
-use Rattle.fourier_analysis.proofs.store_four.Statement.{statement}
-use Rattle.fourier_analysis.proofs.store_four.Tie as tie
+use Rattle.storage.proofs.store_eight.Statement.{statement}
+use Rattle.storage.proofs.store_eight.Tie as tie
 
 slice-write-out-2 : tie.Need-slice-write-out-2
 slice-write-out-2 c = simp length-set (omega arith)
@@ -40,10 +40,11 @@ returns c =
     (filled-more (filled-more (filled-more (filled-more (filled-more (filled-one _ refl) refl refl) refl refl) refl refl) refl refl) refl refl) refl refl)
     refl refl
 
-pub store-four-spec : {M : Type 1} → statement M
-store-four-spec =
+pub store-eight-spec : {M : Type 1} → statement M
+store-eight-spec =
     tie.close
-    (tie.spec (λ c. search needs) (λ c. search needs) (λ c. search needs) (λ c. search needs) slice-write-out-2 (λ c. search needs) (λ c. search needs)
+    (tie.spec (λ c. search needs) (λ c. search needs) (λ c. search needs) (λ c. search needs) slice-write-out-2 (λ c. search needs)
+    (λ c. search needs)
     slice-write-out-3 (λ c. search needs) (λ c. search needs) slice-write-out-4 (λ c. search needs) (λ c. search needs) slice-write-out-5
     (λ c. search needs) (λ c. search needs) slice-write-out-6 (λ c. search needs) (λ c. search needs) slice-write-out-7 (λ c. search needs)
     (λ c. search needs) slice-write-out-8 same-length returns)
