@@ -9,9 +9,10 @@ use borrow.Author.Tests.{lt-ltb, le-ltb}
 use Rattle.refusal.specs.declared.Refusal.{Refusal}
 use Rattle.refusal.specs.declared.Refusal.the-variants.{Size}
 use Rattle.storage.specs.Answers.{sizeOf, size-is}
-use Rattle.storage.specs.Store.{store, length-store, store-append}
+use Rattle.storage.specs.Store.{store, store-append}
 use Rattle.storage.specs.Tabulate.{tabulate, length-tabulate}
 use Rattle.storage.specs.Triangle.{tableSize}
+use Rattle.text.specs.Stored.{Prefix, prefix-stored}
 use Rattle.coefficients.specs.Values.{varianceOf}
 use Rattle.model_file.specs.declared.FileHead.{FileHead}
 use Rattle.model_file.specs.declared.Reading.{Reading}
@@ -19,7 +20,7 @@ use Rattle.model_file.specs.declared.Reading.the-variants.{Model, Refused}
 use Rattle.model_file.specs.Format.{refuseReading, headOf, Parsed, model, fault, parse}
 use Rattle.model_file.specs.Answers.{readOutcome, readAnswer, cOf, sOf}
 use Rattle.model_file.specs.RoundTrip.{accepted, parse-table}
-use Rattle.variance_report.specs.Report.{numbersOf, linesOf, titleText, refusedText, modelText, parsedText, reportOf, Prefix}
+use Rattle.variance_report.specs.Report.{numbersOf, linesOf, titleText, refusedText, modelText, parsedText, reportOf}
 use Rattle.variance_report.specs.ReportFront.{pairs-most}
 use Rattle.variance_report.proofs.Lists.{take-stored, Lent, lent-stored}
 use Rattle.variance_report.proofs.Texts.{lines-most, length-refused, length-title}
@@ -48,7 +49,8 @@ pub text-most : (N : ℕ) (c s : List ℕ) → N ≤ 86 → length (modelText N 
 unfolding modelText
 text-most N c s h =
     let vs : List Float = tabulate (varianceOf (numbersOf c) (numbersOf s)) 0 (N + 1) in
-    omega (arith, length-append titleText (linesOf vs 0), length-title, lines-most vs 0, length-tabulate (varianceOf (numbersOf c) (numbersOf s)) 0 (N + 1))
+    let n = length-tabulate (varianceOf (numbersOf c) (numbersOf s)) 0 (N + 1) in
+    omega (arith, length-append titleText (linesOf vs 0), length-title, lines-most vs 0 (omega (arith, n)), n)
 
 -- ---- what is to be shown of the answer and of the text at the end
 
@@ -58,10 +60,7 @@ pub record Told (b d : List ℕ) (r : ℕ) (d′ : List ℕ) : Type 0 where
   pub prefix : Prefix r d′
 
 told : (b d d′ vs : List ℕ) (r : ℕ) → reportOf b ≡ vs → r ≡ length vs → d′ ≡ store 0 vs d → length vs ≤ length d → Told b d r d′
-told b d d′ vs r e n p h =
-    let l = ap length p ∙ length-store 0 vs d in
-    let t : take r d′ ≡ vs = rw p (take-stored vs d r (sym n) (omega arith)) in
-    record { end = rw e n; text = rw e p; prefix = (omega arith, omega (arith, ap length t)) }
+told b d d′ vs r e n p h = record { end = rw e n; text = rw e p; prefix = prefix-stored vs d d′ r p n h }
 
 module _ (b d d′ : List ℕ) (room : 1756 ≤ length d) (r : Reading) (er : r ≡ headOf b) where
   refused : (e : Refusal) (n : ℕ) → reportOf b ≡ refusedText e → n ≡ 10 → d′ ≡ store 0 (refusedText e) d → Told b d n d′

@@ -1,28 +1,17 @@
--- Lists that a loop stores element by element, and parts of them that are lent. Assumes nothing.
+-- Parts of lists that were stored or filled, and parts that are lent. Assumes nothing.
 use mathlib.Core.Path.{_≡_, sym, ap, _∙_}
-use Prim.Native.Nat.{ℕ, suc, _+_, _≤_, _<_}
+use Prim.Native.Nat.{ℕ, _+_, _≤_, _<_}
 use native.Mathlib.Nat.{zero-add}
-use native.Mathlib.Numerals.{add-one}
 use native.Mathlib.Omega.{arith}
 use mathlib.Core.List.{List, _++_}
-use lib.ListN.{length, getD, set, take, drop, drop-of-length-le}
-use lib.Seq.{drop-cons, take-append-seam, length-take-le}
+use lib.ListN.{length, getD, take, drop}
+use lib.Seq.{take-append-seam, length-take-le}
 use Rattle.storage.specs.Elements.{from}
 use Rattle.storage.specs.Fill.{fill, fill-same}
-use Rattle.storage.specs.Store.{store, length-store, store-none, store-cons, store-front, fill-front}
+use Rattle.storage.specs.Store.{store, length-store, store-front, fill-front}
 use Rattle.storage.specs.Tabulate.{tabulate, length-tabulate, getD-tabulate}
 
 module _ {A : Type 0} (vs : List A) where
-  -- a loop that stores the elements of vs one by one: what is stored, with what is still to come
-  pub rest-turn : (d : List A) (i j j′ : ℕ) (v z : A) → i < length vs → j′ ≡ j + 1 → v ≡ getD vs i z
-      → store j′ (drop (i + 1) vs) (set d j v) ≡ store j (drop i vs) d
-  rest-turn d i j j′ v z h e p =
-      rw (e, p, add-one i)
-      (sym (store-cons j (getD vs i z) (drop (suc i) vs) d) ∙ ap (λ (l : List A). store j l d) (sym (drop-cons vs i z h)))
-
-  pub rest-end : (d : List A) (i j : ℕ) → length vs ≤ i → d ≡ store j (drop i vs) d
-  rest-end d i j h = sym (ap (λ (l : List A). store j l d) (drop-of-length-le vs h) ∙ store-none j d)
-
   -- the part of a list that a list was stored in
   pub take-stored : (d : List A) (t : ℕ) → length vs ≡ t → t ≤ length d → take t (store 0 vs d) ≡ vs
   take-stored d t e h =

@@ -1,6 +1,5 @@
 -- Digits, lines and their lengths, as the code stores them. Assumes nothing.
 use mathlib.Core.Path.{_≡_, refl, sym, ap, _∙_}
-use mathlib.Core.Logic.{_⊎_, inl, inr}
 use Prim.Native.Nat.{ℕ, zero, suc, _+_, _-_, _*_, _/_, _%_, _≤_, _<_}
 use native.Mathlib.Nat.{not-suc-le-zero}
 use native.Mathlib.Numerals.{add-one}
@@ -14,15 +13,9 @@ use Rattle.refusal.specs.declared.Refusal.{Refusal}
 use Rattle.refusal.specs.declared.Refusal.the-variants.{Size, Length, Space, Place, Love, Short, Kind, After, Tide}
 use Rattle.refusal.specs.Numbers.{refusalNumber}
 use Rattle.storage.specs.Store.{store, store-none, store-cons, store-append}
-use Rattle.model_file.specs.Truncation.{lt-or-ge}
-use Rattle.variance_report.specs.Report.{hexDigit, hexDigits, decimalDigits, lineOf, linesOf, titleText, refusedText}
-
--- one element behind a list that is stored
-store-last : (at : ℕ) (us d : List ℕ) (v : ℕ) → set (store at us d) (at + length us) v ≡ store at (us ++ (v ∷ [])) d
-store-last at us d v =
-    sym (store-none (at + length us + 1) (set (store at us d) (at + length us) v))
-    ∙ sym (store-cons (at + length us) v [] (store at us d))
-    ∙ sym (store-append at us (v ∷ []) d)
+use Rattle.text.specs.Stored.{store-last}
+use Rattle.text.specs.Digits.{decimalDigits, length-most}
+use Rattle.variance_report.specs.Report.{hexDigit, hexDigits, lineOf, linesOf, titleText, refusedText}
 
 -- an element stored behind a list, before that list or after it
 store-behind : (at : ℕ) (us d : List ℕ) (j v : ℕ) → at + length us ≤ j → store at us (set d j v) ≡ set (store at us d) j v
@@ -64,34 +57,10 @@ unfolding hexDigits
 hex-end d at zero x h = sym (store-none at d)
 hex-end d at (suc k) x h = absurd (not-suc-le-zero h)
 
--- ---- decimal digits
-
-module _ (n : ℕ) (h : n < 10) where
-  pub decimal-one : (d : List ℕ) (at : ℕ) → set d at (48 + n) ≡ store at (decimalDigits n) d
-  unfolding decimalDigits store
-  decimal-one d at = rw (lt-ltb n 10 h) refl
-
-  pub length-one : length (decimalDigits n) ≡ 1
-  unfolding decimalDigits
-  length-one = rw (lt-ltb n 10 h) refl
-
-module _ (n : ℕ) (h : 10 ≤ n) where
-  pub decimal-two : (d : List ℕ) (at : ℕ) → set (set d at (48 + n / 10)) (at + 1) (48 + n % 10) ≡ store at (decimalDigits n) d
-  unfolding decimalDigits store
-  decimal-two d at = rw (le-ltb n 10 h) refl
-
-  pub length-two : length (decimalDigits n) ≡ 2
-  unfolding decimalDigits
-  length-two = rw (le-ltb n 10 h) refl
-
-length-decimal-by : (n : ℕ) → (n < 10) ⊎ (10 ≤ n) → length (decimalDigits n) ≤ 2
-length-decimal-by n (inl h) = omega (arith, length-one n h)
-length-decimal-by n (inr h) = omega (arith, length-two n h)
-
-pub length-decimal : (n : ℕ) → length (decimalDigits n) ≤ 2
-length-decimal n = length-decimal-by n (lt-or-ge n 10)
-
 -- ---- a line
+
+pub length-decimal : (n : ℕ) → n < 100 → length (decimalDigits n) ≤ 2
+length-decimal n h = length-most 1 n h
 
 pub length-line : (n bits : ℕ) → length (lineOf n bits) ≡ length (decimalDigits n) + 18
 unfolding lineOf
@@ -129,12 +98,12 @@ pub lines-none : (vs : List Float) (n : ℕ) → length vs ≤ n → linesOf (dr
 unfolding linesOf
 lines-none vs n h = rw (drop-of-length-le vs h) refl
 
-pub lines-most : (vs : List Float) (n : ℕ) → length (linesOf vs n) ≤ 20 * length vs
+pub lines-most : (vs : List Float) (n : ℕ) → n + length vs ≤ 100 → length (linesOf vs n) ≤ 20 * length vs
 unfolding linesOf
-lines-most [] n = omega arith
-lines-most (v ∷ vs) n =
+lines-most [] n h = omega arith
+lines-most (v ∷ vs) n h =
     let bits : ℕ = toBits binary64 v in
-    omega (arith, length-append (lineOf n bits) (linesOf vs (n + 1)), length-line n bits, length-decimal n, lines-most vs (n + 1))
+    omega (arith, length-append (lineOf n bits) (linesOf vs (n + 1)), length-line n bits, length-decimal n (omega arith), lines-most vs (n + 1) (omega arith))
 
 -- ---- a refusal
 

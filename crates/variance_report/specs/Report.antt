@@ -1,15 +1,14 @@
 -- What the program `variances` prints for the bytes that it reads, by document 01, in ASCII. Definitions only.
-use mathlib.Core.Path.{_≡_}
-use Prim.Native.Nat.{ℕ, zero, suc, _+_, _/_, _%_, _≤_}
+use Prim.Native.Nat.{ℕ, zero, suc, _+_, _/_, _%_}
 use mathlib.Core.Bool.{cond}
 use mathlib.Core.List.{List, [], _∷_, _++_, map}
-use lib.ListN.{length, take}
 use lib.Dec.{ltb}
 use lib.Ieee.{Float, binary64, ofBits, toBits}
 use Rattle.refusal.specs.declared.Refusal.{Refusal}
 use Rattle.refusal.specs.declared.Refusal.the-variants.{Size}
 use Rattle.refusal.specs.Numbers.{refusalNumber}
 use Rattle.storage.specs.Tabulate.{tabulate}
+use Rattle.text.specs.Digits.{decimalDigits}
 use Rattle.coefficients.specs.Values.{varianceOf}
 use Rattle.model_file.specs.declared.Reading.{Reading}
 use Rattle.model_file.specs.declared.Reading.the-variants.{Model, Refused}
@@ -27,10 +26,6 @@ hexDigit d = cond (ltb d 10) (48 + d) (87 + d)
 unfoldable pub hexDigits : ℕ → ℕ → List ℕ
 hexDigits zero x = []
 hexDigits (suc k) x = hexDigits k (x / 16) ++ (hexDigit (x % 16) ∷ [])
-
--- the decimal digits of a number below 100
-unfoldable pub decimalDigits : ℕ → List ℕ
-decimalDigits n = cond (ltb n 10) ((48 + n) ∷ []) ((48 + n / 10) ∷ (48 + n % 10) ∷ [])
 
 -- a degree's line: its digits, a space, the 16 digits of a bit pattern, and the line's end
 unfoldable pub lineOf : ℕ → ℕ → List ℕ
@@ -65,7 +60,3 @@ headText (Refused e) b = refusedText e
 -- what the program prints for the bytes b
 unfoldable pub reportOf : List ℕ → List ℕ
 reportOf b = headText (headOf b) b
-
--- n elements at the front of l, in the two forms that a reader of `&l[..n]` asks for
-abbrev pub Prefix : ℕ → List ℕ → Type 0
-Prefix n l = (n ≤ length l) × (n ≡ length (take n l))

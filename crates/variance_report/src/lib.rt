@@ -8,7 +8,8 @@ ghost use Prim.Native.Nat.{_+_, _≤_, _<_};
 ghost use lib.ListN.{length};
 ghost use Rattle.storage.specs.Store.{store};
 ghost use Rattle.storage.specs.Triangle.{tableSize};
-ghost use Rattle.variance_report.specs.Report.{numbersOf, hexDigit, hexDigits, decimalDigits, lineOf, linesOf, refusedText, modelText, reportOf, Prefix};
+ghost use Rattle.text.specs.Stored.{Prefix};
+ghost use Rattle.variance_report.specs.Report.{numbersOf, hexDigit, hexDigits, lineOf, linesOf, refusedText, modelText, reportOf};
 
 // The numbers of bit patterns, at the front of out.
 fn numbers_of(bits: &[u64], out: &mut [f64])
@@ -20,35 +21,6 @@ fn numbers_of(bits: &[u64], out: &mut [f64])
         out[k] = number::number_of_bits(bits[k]);
         k += 1;
     }
-}
-
-// Stores the text from `at` on, and answers where it ends.
-fn write_text(out: &mut [u8], at: usize, text: &[u8]) -> usize
-    requires { ⌜ at + length (now text) ≤ length (now out) ⌝ }
-    ensures { λ r. ⌜ r ≡ at + length (now (text .entry)) ⌝ }
-    ensures { λ _. ⌜ now (out .exit) ≡ store at (now (text .entry)) (now (out .entry)) ⌝ }
-{
-    let mut i = 0;
-    while i < text.len() {
-        out[at + i] = text[i];
-        i += 1;
-    }
-    at + i
-}
-
-// Stores the decimal digits of n from `at` on, and answers where they end.
-fn write_decimal(out: &mut [u8], at: usize, n: usize) -> usize
-    requires { ⌜ (n < 100) × (at + 2 ≤ length (now out)) ⌝ }
-    ensures { λ r. ⌜ r ≡ at + length (decimalDigits n) ⌝ }
-    ensures { λ _. ⌜ now (out .exit) ≡ store at (decimalDigits n) (now (out .entry)) ⌝ }
-{
-    if n < 10 {
-        out[at] = 48 + n as u8;
-        return at + 1;
-    }
-    out[at] = 48 + (n / 10) as u8;
-    out[at + 1] = 48 + (n % 10) as u8;
-    at + 2
 }
 
 fn hex_digit(d: u64) -> u8
@@ -78,7 +50,7 @@ fn write_line(out: &mut [u8], at: usize, n: usize, bits: u64) -> usize
     ensures { λ r. ⌜ r ≡ at + length (lineOf n bits) ⌝ }
     ensures { λ _. ⌜ now (out .exit) ≡ store at (lineOf n bits) (now (out .entry)) ⌝ }
 {
-    let space = write_decimal(out, at, n);
+    let space = text::write_decimal(out, at, n);
     out[space] = 32;
     write_hex(out, space + 1, bits);
     out[space + 17] = 10;
@@ -106,7 +78,7 @@ fn write_refused(out: &mut [u8], e: Refusal) -> usize
     ensures { λ r. ⌜ r ≡ 10 ⌝ }
     ensures { λ _. ⌜ now (out .exit) ≡ store 0 (refusedText e) (now (out .entry)) ⌝ }
 {
-    write_text(out, 0, b"refused ");
+    text::write_bytes(out, 0, b"refused ");
     out[8] = 48 + refusal::refusal_number(e) as u8;
     out[9] = 10;
     10
@@ -132,7 +104,7 @@ fn write_model(out: &mut [u8], nmax: usize, c: &[u64], s: &[u64]) -> usize
         nmax,
     };
     head.degree_variances(&cs[..t], &ss[..t], &mut variances);
-    write_text(out, 0, b"degree variance\n");
+    text::write_bytes(out, 0, b"degree variance\n");
     let k = nmax + 1;
     write_lines(out, &variances[..k])
 }

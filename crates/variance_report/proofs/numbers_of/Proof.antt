@@ -2,7 +2,7 @@ use lib.ListN.{drop, length-set}
 use lib.Ieee.{binary64, ofBits}
 use Rattle.storage.specs.Store.{store}
 use Rattle.variance_report.specs.Report.{numbersOf}
-use Rattle.variance_report.proofs.Lists.{rest-turn, rest-end}
+use Rattle.text.specs.Stored.{rest-turn, rest-end}
 use Rattle.variance_report.proofs.Variances.{length-numbers, number-at}
 use borrow.Author.Needs.{needs}
 use native.Mathlib.Omega.{arith}
@@ -42,5 +42,5 @@ returns c =
 pub numbers-of-spec : {M : Type 1} → statement M
 numbers-of-spec =
     tie.close
-    (tie.spec Inv-loop μ-loop loop-holds (λ c. omega arith) (λ c. omega arith) (λ c κs. search needs) (λ c. omega arith) (λ c. omega arith)
-    (λ c. omega arith) (λ c. omega arith) loop-again (λ c. search needs) returns)
+    (tie.spec Inv-loop μ-loop loop-holds (λ c. omega arith) (λ c. omega arith) (λ c κs. search needs) (λ c. omega arith) (λ c. omega arith) (λ c. omega
+    arith) (λ c. omega arith) loop-again (λ c. search needs) returns)

@@ -2,30 +2,32 @@ use lib.ListN.{length-set}
 use Rattle.variance_report.proofs.Texts.{length-decimal, length-line, line-parts}
 use native.Mathlib.Omega.{arith}
 use mathlib.Core.Path.{_∙_}
-use borrow.Author.Needs.{needs}
 use Rattle.variance_report.proofs.write_line.Statement.{statement}
 use Rattle.variance_report.proofs.write_line.Tie as tie
 
+write-decimal-requires : tie.Need-write-decimal-requires
+write-decimal-requires c κs = omega (arith, length-decimal (c .before .before .args .n) (omega arith))
+
 slice-write-out : tie.Need-slice-write-out
-slice-write-out c = omega (arith, length-decimal (c .before .before .before .before .before .args .n))
+slice-write-out c = omega (arith, length-decimal (c .before .before .before .before .before .args .n) (omega arith))
 
 add-write-hex : tie.Need-add-write-hex
-add-write-hex c = omega (arith, length-decimal (c .before .before .before .before .before .before .args .n))
+add-write-hex c = omega (arith, length-decimal (c .before .before .before .before .before .before .args .n) (omega arith))
 
 write-hex-requires : tie.Need-write-hex-requires
-write-hex-requires c κs = simp length-set (omega (arith, length-decimal (c .before .before .before .before .before .before .args .n)))
+write-hex-requires c κs = simp length-set (omega (arith, length-decimal (c .before .before .before .before .before .before .args .n) (omega arith)))
 
 add-out : tie.Need-add-out
-add-out c = omega (arith, length-decimal (c .before .before .before .before .before .before .before .before .before .args .n))
+add-out c = omega (arith, length-decimal (c .before .before .before .before .before .before .before .before .before .args .n) (omega arith))
 
 slice-write-out-2 : tie.Need-slice-write-out-2
 slice-write-out-2 c =
     let a = c .before .before .before .before .before .before .before .before .before .args in
     let write-hex = c .before .before .write-hex in
-    omega (arith, length-decimal (a .n), simp length-set at (write-hex .kept .0))
+    omega (arith, length-decimal (a .n) (omega arith), simp length-set at (write-hex .kept .0))
 
 add-result : tie.Need-add-result
-add-result c = omega (arith, length-decimal (c .before .before .before .before .before .before .before .before .before .args .n))
+add-result c = omega (arith, length-decimal (c .before .before .before .before .before .before .before .before .before .args .n) (omega arith))
 
 same-length : tie.Need-same-length
 same-length c =
@@ -45,4 +47,4 @@ returns c =
 pub write-line-spec : {M : Type 1} → statement M
 write-line-spec =
     tie.close
-    (tie.spec (λ c κs. search needs) slice-write-out add-write-hex write-hex-requires add-out slice-write-out-2 add-result same-length returns)
+    (tie.spec write-decimal-requires slice-write-out add-write-hex write-hex-requires add-out slice-write-out-2 add-result same-length returns)

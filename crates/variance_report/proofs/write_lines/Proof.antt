@@ -31,7 +31,7 @@ loop-again c =
     let w = c .before .before .write-line in
     let b = c .before .before .before .bits-of-number in (
       omega arith,
-      omega (arith, length-line (l .n) (b .result), length-decimal (l .n)),
+      omega (arith, length-line (l .n) (b .result), length-decimal (l .n) (omega arith)),
       w .kept .0 ∙ l .inv .2,
       lines-length vs nan _ _ _ _ (omega arith) (b .ensures) (w .ensures .0) ∙ l .inv .3,
       lines-turn vs nan _ _ _ _ (omega arith) (b .ensures) (w .ensures .0) _ _ (w .ensures .1) ∙ l .inv .4,
@@ -48,5 +48,5 @@ returns c =
 pub write-lines-spec : {M : Type 1} → statement M
 write-lines-spec =
     tie.close
-    (tie.spec Inv-loop μ-loop loop-holds (λ c. omega arith) (λ c. omega arith) (λ c κs. search needs) (λ c κs. search needs) (λ c. omega arith)
-    (λ c. omega arith) loop-again (λ c. search needs) returns)
+    (tie.spec Inv-loop μ-loop loop-holds (λ c. omega arith) (λ c. omega arith) (λ c κs. search needs) (λ c κs. search needs) (λ c. omega arith) (λ c. omega
+    arith) loop-again (λ c. search needs) returns)

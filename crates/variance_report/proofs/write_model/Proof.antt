@@ -58,16 +58,16 @@ write-lines-requires c κs =
     let c1 = c .before .before .before .before .before .before .before .before .before .before in
     let c2 = c1 .before .before .before .before .before .before .before .before .before .before in
     let degree-variances = c .before .before .before .before .before .before .before .before .degree-variances in
-    let write-text = c .before .before .before .before .write-text in
+    let write-bytes = c .before .before .before .before .write-bytes in
     let p = lent (degree-variances .last .1 .1 .1 .0) 87 (c2 .before .args .nmax + 1) (degree-variances .kept .1 .1 .1 .0) (omega arith) in
-    (omega arith, omega (arith, write-text .kept .0))
+    (omega arith, omega (arith, write-bytes .kept .0))
 
 returns : tie.Need-returns
 returns c =
     let c1 = c .before .before .before .before .before .before .before .before .before .before in
     let c2 = c1 .before .before .before .before .before .before .before .before .before .before in
     let numbers-of = c1 .before .before .before .before .before .before .before .before .before .numbers-of in
-    let write-text = c .before .before .before .before .before .before .before .write-text in
+    let write-bytes = c .before .before .before .before .before .before .before .write-bytes in
     let numbers-of2 = c1 .before .before .before .before .before .before .numbers-of2 in
     let degree-variances = c1 .before .degree-variances in
     let a = c2 .before .before .before .before .args in
@@ -79,12 +79,12 @@ returns c =
     (degree-variances .ensures .1) in
     let vs = variances-are (a .c .now) (a .s .now) (a .nmax) _ refl (omega arith) _ _ _ _ _ _ _ nan refl (omega arith) (omega arith) (omega arith)
     (numbers-of .ensures) (numbers-of2 .ensures) made in
-    let w = model-written (a .nmax) (a .c .now) (a .s .now) _ _ _ _ _ vs (write-text .ensures .1) (write-lines .ensures .0) (write-lines .ensures .1) in
+    let w = model-written (a .nmax) (a .c .now) (a .s .now) _ _ _ _ _ vs (write-bytes .ensures .1) (write-lines .ensures .0) (write-lines .ensures .1) in
     (w .end, w .text)
 
 pub write-model-spec : {M : Type 1} → statement M
 write-model-spec =
     tie.close
     (tie.spec (λ c. search needs) numbers-of-requires (λ c. search needs) numbers-of-requires-2 array-share-prefix-cs slice-aggregate-degree-variances
-    array-share-prefix-ss slice-aggregate-degree-variances-2 (λ c. search needs) (λ c κs. search needs) (λ c. search needs) (λ c κs. search needs)
-    (λ c. search needs) array-share-prefix-variances slice-aggregate-write-lines write-lines-requires (λ c. search needs) returns)
+    array-share-prefix-ss slice-aggregate-degree-variances-2 (λ c. search needs) (λ c κs. search needs) (λ c. search needs) (λ c κs. search needs) (λ c.
+    search needs) array-share-prefix-variances slice-aggregate-write-lines write-lines-requires (λ c. search needs) returns)

@@ -16,7 +16,7 @@ slice-write-out-2 : tie.Need-slice-write-out-2
 slice-write-out-2 c = simp length-set (omega arith)
 
 returns : tie.Need-returns
-returns c = (refl, refused-parts _ _ _ _ (c .refusal-number .ensures) (c .before .before .before .write-text .ensures .1))
+returns c = (refl, refused-parts _ _ _ _ (c .refusal-number .ensures) (c .before .before .before .write-bytes .ensures .1))
 
 pub write-refused-spec : {M : Type 1} → statement M
 write-refused-spec =
