@@ -40,6 +40,11 @@ pub fn longitude(cases: &mut Cases, nmax: usize) -> Vec<(f64, f64)> {
     if cases.below(6) == 0 { (0..=nmax).map(|_| (cases.number(), cases.number())).collect() } else { orders(6.3 * cases.fraction(), nmax) }
 }
 
+/// Numbers that a replaying program makes by the same formula: exact, of either sign, at most 50/64 in size.
+pub fn pattern(shift: usize, count: usize) -> Vec<f64> {
+    (0..count).map(|k| ((37 * (k % 101) + shift) % 101) as f64 * 0.015625 - 0.78125).collect()
+}
+
 /// Pairs end to end, as a call is lent them.
 pub fn flat(pairs: &[(f64, f64)]) -> Vec<f64> {
     pairs.iter().flat_map(|&(x, y)| [x, y]).collect()

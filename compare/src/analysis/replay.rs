@@ -1,6 +1,7 @@
-//! The oracle's analysis of grids of degree 3, ordinary and special values, with the factors of three functionals.
+//! The oracle's analysis of grids of degree 3, ordinary and special values, with the factors of three functionals; and one with weights that
+//! are not the same north and south, with the head of its answer.
 
-use oracle::Coefficients;
+use oracle::{Coefficients, TideSystem};
 
 use super::gauss;
 use crate::coefficients::fields::fixed;
@@ -40,5 +41,19 @@ pub fn replay() -> String {
             );
         }
     }
+    let weights = [0.125, 0.75, 0.4, 0.9];
+    let ordinary = gauss(&field, 1, &LOVE, R).values;
+    let factor = functional(1, &LOVE);
+    let model = Coefficients::analysis(&factor, R, &ordinary, NMAX, field.gm, field.radius, &weights, &lent.latitudes, &lent.trig);
+    list("other weights, not the same north and south", "OTHER_WEIGHTS", &weights);
+    list("the model of the first values by these weights, as functional 1: gm, radius", "OTHER_HEAD", &[model.gm, model.radius]);
+    let tide = match model.tide_system {
+        TideSystem::TideFree => 0,
+        TideSystem::ZeroTide => 1,
+        TideSystem::MeanTide => 2,
+        TideSystem::Unknown => 3,
+    };
+    list("its c, then s", "OTHER", &[&model.c[..], &model.s].concat());
+    text += &array("the numbers of its tide and its degree", "OTHER_NUMBERS", &[tide.to_string(), model.max_degree().to_string()]);
     text
 }

@@ -42,15 +42,16 @@ fn rows() -> Vec<Row> {
 pub fn replay() -> String {
     let mut text = String::from("// The oracle's answers for the crate functional, numbers as bit patterns.\n");
     text += "// Written by `compare/run replay functional FILE` (see compare/README.md), never by hand.\n";
-    let cases: Vec<String> = rows()
-        .into_iter()
-        .flat_map(|(n, gm, radius, r, k)| {
-            let love = vec![k; n + 1];
-            let answers = (0..NAMES.len()).map(|i| functional(i as u32, &love).factor(n, gm, radius, r));
-            let row: Vec<String> = [gm, radius, r, k].into_iter().chain(answers).map(number).collect();
-            std::iter::once(n.to_string()).chain(row)
-        })
-        .collect();
-    let comment = "rows of eleven: n (a whole number), gm, radius, r, the Love number of degree n, the six functionals' factors in the order of their numbers";
-    text + &array(comment, "FACTORS", &cases)
+    let inputs: Vec<String> =
+        rows().iter().flat_map(|&(n, gm, radius, r, k)| [n.to_string(), number(gm), number(radius), number(r), number(k)]).collect();
+    text += &array("rows of five: n (a whole number), gm, radius, r, the Love number of degree n", "INPUTS", &inputs);
+    for (i, name) in NAMES.iter().enumerate() {
+        let factor = |&(n, gm, radius, r, k): &Row| number(functional(i as u32, &vec![k; n + 1]).factor(n, gm, radius, r));
+        let constant: String = name
+            .char_indices()
+            .flat_map(|(at, c)| (at > 0 && c.is_uppercase()).then_some('_').into_iter().chain(c.to_uppercase()))
+            .collect();
+        text += &array(&format!("the factors of {name}"), &constant, &rows().iter().map(factor).collect::<Vec<_>>());
+    }
+    text
 }

@@ -1,4 +1,4 @@
-//! The oracle's answers on tables of degree 4 and on rules of few nodes.
+//! The oracle's answers on tables of degree 4, on one of degree 130, and on rules of few nodes.
 
 use oracle::standins::tricomi;
 use oracle::{Legendre, gauss_legendre};
@@ -7,6 +7,7 @@ use crate::constants::{array, number};
 use crate::lent::pair;
 
 const NMAX: usize = 4;
+const LARGE: usize = 130;
 
 fn numbers(list: &[f64]) -> Vec<String> {
     list.iter().map(|&x| number(x)).collect()
@@ -41,6 +42,13 @@ pub fn replay() -> String {
     list("at the equator", "EQUATOR", &at(&mut own, (0.0, 1.0)));
     list("at a pair that is no latitude's", "OUTSIDE", &at(&mut own, (1e300, 0.0)));
     list("with the special tables", "SPECIAL", &at(&mut special, pair(-0.7)));
+    let large = at(&mut Legendre::new(LARGE), pair(0.3));
+    let size = (LARGE + 1) * (LARGE + 2) / 2;
+    list(
+        "at the first pair, of a table up to degree 130: P of degree 130, then the derivatives",
+        "LARGE",
+        &[&large[2 + size - LARGE - 1..2 + size], &large[2 + 2 * size - LARGE - 1..]].concat(),
+    );
     for (n, name) in [(1, "ONE"), (2, "TWO"), (3, "THREE"), (8, "EIGHT")] {
         let guesses = tricomi(n);
         let (x, w) = gauss_legendre(n, &guesses);
@@ -49,5 +57,8 @@ pub fn replay() -> String {
     let guesses = [f64::NAN, 2.0, -0.0];
     let (x, w) = gauss_legendre(5, &guesses);
     list("five nodes from strange guesses", "GAUSS_STRANGE", &[guesses.to_vec(), x, w].concat());
+    // So far from the root that a hundred corrections do not reach it.
+    let (x, w) = gauss_legendre(2, &[1e30]);
+    list("two nodes from a guess far off", "GAUSS_FAR", &[vec![1e30], x, w].concat());
     text
 }

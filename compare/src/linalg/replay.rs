@@ -1,7 +1,13 @@
-//! The oracle's eigenvalues and eigenvectors of edge matrices, and its eigenvalues of all ones about n = 32.
+//! The oracle's eigenvalues and eigenvectors of edge matrices and of dense ones, and its eigenvalues of all ones about n = 32.
 
-use super::{SOLVERS, edges};
+use super::{SOLVERS, edges, made};
 use crate::constants::{array, number};
+
+/// A dense symmetric matrix of whole numbers, which the replaying program makes by the same formula.
+fn dense(n: usize) -> Vec<f64> {
+    let side = |i: usize| ((5 * (i % 17)) % 17) as f64 - 8.0;
+    made(n, |i, j| side(i) * side(j) + ((29 * (i % 71 + j % 71)) % 71) as f64)
+}
 
 pub fn replay() -> String {
     let mut text = String::from("// The oracle's answers for the crate linalg, numbers as bit patterns.\n");
@@ -33,6 +39,22 @@ pub fn replay() -> String {
             &format!("ONES_{n}"),
             &values.iter().map(|&x| number(x)).collect::<Vec<_>>(),
         );
+    }
+    for (n, rows) in [(5, "5"), (34, "34")] {
+        let answers = SOLVERS.map(|(_, _, oracle)| {
+            let (values, vectors) = oracle(&dense(n), n);
+            [values, vectors].concat().iter().map(|&x| number(x)).collect::<Vec<_>>()
+        });
+        let comment = |name: &str| format!("{name} of a dense matrix of {rows} rows: values, then vectors");
+        if n > 32 {
+            // Both calls go by reflections.
+            assert_eq!(answers[0], answers[1]);
+            text += &array(&comment("both"), &format!("DENSE_{rows}"), &answers[0]);
+        } else {
+            for ((name, _, _), answer) in SOLVERS.iter().zip(&answers) {
+                text += &array(&comment(name), &format!("{}_DENSE_{rows}", name.to_uppercase()), answer);
+            }
+        }
     }
     text
 }

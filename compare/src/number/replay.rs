@@ -37,6 +37,13 @@ fn drawn(count: usize) -> Vec<f64> {
     (0..count).map(|_| f64::from_bits(pattern(cases.any_bits()) & !(1 << 63))).collect()
 }
 
+/// A group: its inputs, one, two or more to a case, and its answers.
+fn group(inputs: &str, name: &str, cases: &[(Vec<String>, String)]) -> String {
+    let all: Vec<String> = cases.iter().flat_map(|(inputs, _)| inputs.clone()).collect();
+    let answers: Vec<String> = cases.iter().map(|(_, answer)| answer.clone()).collect();
+    array(inputs, name, &all) + &array("its answers", &format!("{name}_ANSWERS"), &answers)
+}
+
 fn root() -> String {
     let mut list = EDGES.to_vec();
     list.extend([2.0, 3.0, 4.0, 0.25, 0.5, 5.0, 1e-280, 1e308, 2.0f64.next_down(), 2.0f64.next_up(), 4.0f64.next_down(), 4.0f64.next_up()]);
@@ -53,8 +60,8 @@ fn root() -> String {
     list.extend([square, f64::next_down(square), f64::next_up(square), f64::from_bits(0x3ff_ffff * 0x3ff_ffff)]);
     list.extend(root_cases::hardest(16));
     list.extend(drawn(8));
-    let cases: Vec<_> = list.iter().flat_map(|&x| [x, x.sqrt()].map(number)).collect();
-    array("root: x, answer", "ROOT", &cases)
+    let cases: Vec<_> = list.iter().map(|&x| (vec![number(x)], number(x.sqrt()))).collect();
+    group("root: x", "ROOT", &cases)
 }
 
 fn hypot() -> String {
@@ -83,8 +90,8 @@ fn hypot() -> String {
     ]);
     let x = drawn(8);
     list.extend(x.iter().map(|&x| (x, x * 0.7)));
-    let cases: Vec<_> = list.iter().flat_map(|&(x, y)| [x, y, x.hypotenuse(y)].map(number)).collect();
-    array("hypot: x, y, answer", "HYPOT", &cases)
+    let cases: Vec<_> = list.iter().map(|&(x, y)| (vec![number(x), number(y)], number(x.hypotenuse(y)))).collect();
+    group("hypot: x, y", "HYPOT", &cases)
 }
 
 fn powi() -> String {
@@ -116,14 +123,14 @@ fn powi() -> String {
         (1.0f64.next_up(), 4000),
         (1.0f64.next_down(), 4000),
     ]);
-    let cases: Vec<_> = list.iter().flat_map(|&(x, n)| [number(x), n.to_string(), number(x.power(n))]).collect();
-    array("powi: base, exponent (a whole number), answer", "POWI", &cases)
+    let cases: Vec<_> = list.iter().map(|&(x, n)| (vec![number(x), n.to_string()], number(x.power(n)))).collect();
+    group("powi: base, exponent (a whole number)", "POWI", &cases)
 }
 
-/// A group of one number and its answer.
+/// A group of one number to a case.
 fn one_number(comment: &str, name: &str, answer: impl Fn(f64) -> f64) -> String {
-    let cases: Vec<_> = EDGES.iter().flat_map(|&x| [x, answer(x)].map(number)).collect();
-    array(comment, name, &cases)
+    let cases: Vec<_> = EDGES.iter().map(|&x| (vec![number(x)], number(answer(x)))).collect();
+    group(comment, name, &cases)
 }
 
 fn ranks() -> String {
@@ -140,8 +147,8 @@ fn ranks() -> String {
         (-2.0, -3.0),
         (1.0, 1.0f64.next_up()),
     ]);
-    let cases: Vec<_> = list.iter().flat_map(|&(x, y)| [number(x), number(y), ranks_before(x, y).to_string()]).collect();
-    array("ranks_before: x, y, 1 where x comes strictly before y in the falling order, else 0", "RANKS_BEFORE", &cases)
+    let cases: Vec<_> = list.iter().map(|&(x, y)| (vec![number(x), number(y)], ranks_before(x, y).to_string())).collect();
+    group("ranks_before: x, y; the answer is 1 where x comes strictly before y in the falling order, else 0", "RANKS_BEFORE", &cases)
 }
 
 fn patterns() -> String {
@@ -154,15 +161,14 @@ fn patterns() -> String {
         0xfff0_dead_beef_0001,
     ];
     let list = EDGES.iter().map(|x| pattern(*x)).chain(nans).chain([0x4009_21fb_5444_2d18, 0x8000_0000_0000_0002]);
-    let cases: Vec<_> = list.flat_map(|bits| [hexadecimal(bits), number(f64::from_bits(bits))]).collect();
-    array("patterns: a bit pattern, the bit pattern of its number (any NaN gives 7ff8000000000000)", "PATTERNS", &cases)
+    let cases: Vec<_> = list.map(|bits| (vec![hexadecimal(bits)], number(f64::from_bits(bits)))).collect();
+    group("patterns: a bit pattern; the answer is the bit pattern of its number (any NaN gives 7ff8000000000000)", "PATTERNS", &cases)
 }
 
 /// Short lists with ties, zeros of either sign and NaNs; each with the places of its numbers in the stable falling ranking.
 fn rankings() -> String {
     let (inf, nan) = (f64::INFINITY, f64::NAN);
-    let lists: [&[f64]; 7] = [
-        &[1.0],
+    let lists: [&[f64]; 6] = [
         &[1.0, 2.0],
         &[0.0, -0.0, 0.0, -0.0],
         &[nan, inf, nan, -inf, 0.0],
@@ -190,8 +196,8 @@ pub fn replay() -> String {
     text += &root();
     text += &hypot();
     text += &powi();
-    text += &one_number("signum: x, answer", "SIGNUM", f64::sign);
-    text += &one_number("magnitude: x, answer", "MAGNITUDE", f64::abs);
+    text += &one_number("signum: x", "SIGNUM", f64::sign);
+    text += &one_number("magnitude: x", "MAGNITUDE", f64::abs);
     text += &ranks();
     text += &patterns();
     text += &rankings();

@@ -36,7 +36,7 @@ pub fn replay() -> String {
         let averages: Vec<f64> = (0..6).map(|k| basin_average(&field, &kernel, &functional(k, &LOVE), 6378200.0)).collect();
         list("the averages of the six functionals at r 6378200", &format!("{prefix}AVERAGES"), &averages);
     }
-    for lmax in [0, 1, 2, 18] {
+    for lmax in [0, 1, 2, 6, 18] {
         let cap = Cap::of(lmax, 0.7);
         let functions = cap.oracle();
         list(&format!("a cap of 0.7 rad, L {lmax}: its cosine"), &format!("CAP_{lmax}_COSINE"), &[cap.cosine]);
@@ -45,9 +45,9 @@ pub fn replay() -> String {
         let orders: Vec<f64> = functions.iter().map(|f| f.m as f64).collect();
         let concentrations: Vec<f64> = functions.iter().map(|f| f.concentration).collect();
         // Of a large cap the vectors are left out.
-        let vectors = functions.iter().filter(|_| lmax <= 2).flat_map(|f| f.coefficients.iter().copied());
+        let vectors = functions.iter().filter(|_| lmax <= 6).flat_map(|f| f.coefficients.iter().copied());
         let answer: Vec<f64> = orders.into_iter().chain(concentrations).chain(vectors).collect();
-        list("orders, then concentrations, then vectors up to L 2", &format!("CAP_{lmax}"), &answer);
+        list("orders, then concentrations, then vectors up to L 6", &format!("CAP_{lmax}"), &answer);
     }
     text
 }

@@ -1,14 +1,23 @@
-//! The oracle's grids of fields of degree 3: three rows (a pole among them), nine longitudes.
+//! The oracle's grids of fields of degree 3: three rows (a pole among them), nine longitudes; and one of degree 130 with two longitudes.
 
 use oracle::Coefficients;
 
 use crate::coefficients::fields::fixed;
 use crate::constants::{array, number};
 use crate::functional::functional;
-use crate::lent::{orders, pair};
+use crate::lent::{orders, pair, pattern};
 
 const LOVE: [f64; 4] = [0.0, 0.021, -0.303, -0.194];
 const NMAX: usize = 3;
+const LARGE: usize = 130;
+
+/// A field of degree 130, and cosines and sines of two longitudes that are none: exact numbers, which the replaying program makes too.
+fn large() -> (Coefficients, Vec<Vec<(f64, f64)>>) {
+    let mut field = Coefficients::zeros(3.986004415e14, 6378136.3, LARGE);
+    (field.c, field.s) = (pattern(0, field.c.len()), pattern(50, field.s.len()));
+    let trig = pattern(77, 4 * (LARGE + 1));
+    (field, trig.chunks(2 * (LARGE + 1)).map(|longitude| longitude.chunks(2).map(|pair| (pair[0], pair[1])).collect()).collect())
+}
 
 fn example(special: bool) -> Coefficients {
     let mut field = fixed(NMAX);
@@ -43,5 +52,9 @@ pub fn replay() -> String {
             list(&format!("functional {which} at r 6378200, row after row"), &format!("{prefix}{name}"), &values);
         }
     }
+    let (field, longitudes) = large();
+    let lons: Vec<&[(f64, f64)]> = longitudes.iter().map(Vec::as_slice).collect();
+    let values = field.grid(&functional(1, &LOVE), 6378200.0, &latitudes, &lons);
+    list("functional 1 at r 6378200 of a field of degree 130, row after row", "LARGE_GEOID_HEIGHT", &values);
     text
 }

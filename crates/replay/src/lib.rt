@@ -30,7 +30,7 @@ pub fn load(words: &[u64], at: usize, out: &mut [f64])
 }
 
 // How many numbers of a list have the bit patterns from index `at` on.
-pub fn same(list: &[f64], words: &[u64], at: usize) -> usize
+fn same(list: &[f64], words: &[u64], at: usize) -> usize
     requires { ⌜ at + length (now list) ≤ length (now words) ⌝ }
     ensures { λ r. ⌜ r ≡ numbersDue (now (list .entry)) (now (words .entry)) at ⌝ }
 {

@@ -274,3 +274,13 @@ pub const SPECIAL_WATER_HEIGHT: [u64; 27] = [
     0x7ff0_0000_0000_0000,
     0x7ff0_0000_0000_0000,
 ];
+
+// functional 1 at r 6378200 of a field of degree 130, row after row
+pub const LARGE_GEOID_HEIGHT: [u64; 6] = [
+    0x419f_9da2_adbe_a400,
+    0x4199_feee_70df_b83b,
+    0xc1a1_9312_b3e7_11f6,
+    0xc1a3_8238_fe84_122f,
+    0xc1a5_acd9_f98e_23db,
+    0xc19b_34e8_e777_fac6,
+];

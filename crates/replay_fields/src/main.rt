@@ -8,22 +8,10 @@ use coefficients::TideSystem;
 use functional::Functional;
 use refusal::Answer;
 use refusal::Number;
-ghost use Prim.Native.Nat.{_+_, _≤_};
+use replay::show;
+use replay::show_words;
+ghost use Prim.Native.Nat.{_+_, _<_, _≤_};
 ghost use lib.ListN.{length};
-
-fn one_if(b: bool) -> usize
-    ensures { λ r. ⌜ r ≤ 1 ⌝ }
-{
-    if b { 1 } else { 0 }
-}
-
-fn print(name: &[u8], right: usize, all: usize) {
-    io::write_all(1, name);
-    io::print_decimal(1, right as u64);
-    io::write_all(1, b" of ");
-    io::print_decimal(1, all as u64);
-    io::write_all(1, b"\n");
-}
 
 fn head_of(nmax: usize) -> Head {
     Head {
@@ -35,7 +23,7 @@ fn head_of(nmax: usize) -> Head {
 }
 
 // A grid of three rows and nine longitudes.
-fn print_grid(functional: Functional, cbits: &[u64; 10], sbits: &[u64; 10], words: &[u64; 27]) {
+fn show_grid(functional: Functional, cbits: &[u64; 10], sbits: &[u64; 10], words: &[u64; 27]) {
     let mut c = [0.0; 10];
     let mut s = [0.0; 10];
     let mut love = [0.0; 4];
@@ -62,22 +50,71 @@ fn print_grid(functional: Functional, cbits: &[u64; 10], sbits: &[u64; 10], word
         &mut work,
         &mut out,
     ) {
-        Answer::Done => print(b"grid ", replay::same(&out, words, 0), 27),
-        Answer::Refused(_) => print(b"grid refused ", 0, 27),
+        Answer::Done => show(b"grid ", &out, words, 0),
+        Answer::Refused(_) => {
+            io::write_all(1, b"grid refused\n");
+        }
     }
 }
 
-// 1 where the average of a functional is the oracle's.
+// Numbers by the formula that the oracle's have: exact, of either sign, at most 50/64 in size.
+fn pattern(shift: usize, out: &mut [f64])
+    requires { ⌜ shift < 101 ⌝ }
+{
+    let mut k = 0;
+    while k < out.len() {
+        out[k] = exact((37 * (k % 101) + shift) % 101);
+        k += 1;
+    }
+}
+
+fn exact(k: usize) -> f64
+    requires { ⌜ k < 101 ⌝ }
+{
+    k as f64 * 0.015625 - 0.78125
+}
+
+// A grid of a field of degree 130 with three rows and two longitudes.
+fn show_large_grid() {
+    let mut c = [0.0; 8646];
+    let mut s = [0.0; 8646];
+    let mut latitudes = [0.0; 6];
+    let mut trig = [0.0; 524];
+    pattern(0, &mut c);
+    pattern(50, &mut s);
+    replay::load(&grids::LATITUDES, 0, &mut latitudes);
+    pattern(77, &mut trig);
+    let mut work = [0.0; 26331];
+    let mut out = [0.0; 6];
+    match synthesis::grid(
+        head_of(130),
+        &c,
+        &s,
+        Functional::GeoidHeight,
+        &[0.0; 1],
+        6378200.0,
+        3,
+        &latitudes,
+        2,
+        &trig,
+        &mut work,
+        &mut out,
+    ) {
+        Answer::Done => show(b"grid of degree 130 ", &out, &grids::LARGE_GEOID_HEIGHT, 0),
+        Answer::Refused(_) => {
+            io::write_all(1, b"grid 130 refused\n");
+        }
+    }
+}
+
+// The bits of a functional's average; those of a signalling NaN, which no answer has, for a refusal.
 fn average(
     functional: Functional,
     c: &[f64; 10],
     s: &[f64; 10],
     kc: &[f64; 6],
     ks: &[f64; 6],
-    word: u64,
-) -> usize
-    ensures { λ r. ⌜ r ≤ 1 ⌝ }
-{
+) -> u64 {
     let mut love = [0.0; 4];
     replay::load(&averages::LOVE, 0, &mut love);
     let field = head_of(3);
@@ -92,35 +129,13 @@ fn average(
         &love,
         6378200.0,
     ) {
-        Number::Value(x) => one_if(number::bits_of_number(x) == word),
-        Number::Refused(_) => 0,
+        Number::Value(x) => number::bits_of_number(x),
+        Number::Refused(_) => 0x7ff0_0000_0000_0001,
     }
 }
 
-// How many of the six functionals' averages are the oracle's: Potential, GeoidHeight, GravityDisturbance, and the other three.
-fn first_three(
-    c: &[f64; 10],
-    s: &[f64; 10],
-    kc: &[f64; 6],
-    ks: &[f64; 6],
-    words: &[u64; 6],
-) -> usize
-    ensures { λ r. ⌜ r ≤ 3 ⌝ }
-{
-    average(Functional::Potential, c, s, kc, ks, words[0])
-        + average(Functional::GeoidHeight, c, s, kc, ks, words[1])
-        + average(Functional::GravityDisturbance, c, s, kc, ks, words[2])
-}
-
-fn last_three(c: &[f64; 10], s: &[f64; 10], kc: &[f64; 6], ks: &[f64; 6], words: &[u64; 6]) -> usize
-    ensures { λ r. ⌜ r ≤ 3 ⌝ }
-{
-    average(Functional::GravityAnomaly, c, s, kc, ks, words[3])
-        + average(Functional::RadialGradient, c, s, kc, ks, words[4])
-        + average(Functional::WaterHeight, c, s, kc, ks, words[5])
-}
-
-fn print_averages(
+// The averages of the six functionals.
+fn show_averages(
     cbits: &[u64; 10],
     sbits: &[u64; 10],
     kcbits: &[u64; 6],
@@ -135,13 +150,57 @@ fn print_averages(
     replay::load(sbits, 0, &mut s);
     replay::load(kcbits, 0, &mut kc);
     replay::load(ksbits, 0, &mut ks);
-    let right = first_three(&c, &s, &kc, &ks, words) + last_three(&c, &s, &kc, &ks, words);
-    print(b"basin_average ", right, 6);
+    let six = [
+        average(Functional::Potential, &c, &s, &kc, &ks),
+        average(Functional::GeoidHeight, &c, &s, &kc, &ks),
+        average(Functional::GravityDisturbance, &c, &s, &kc, &ks),
+        average(Functional::GravityAnomaly, &c, &s, &kc, &ks),
+        average(Functional::RadialGradient, &c, &s, &kc, &ks),
+        average(Functional::WaterHeight, &c, &s, &kc, &ks),
+    ];
+    show_words(b"basin_average ", &six, words, 0);
+}
+
+// A cap to degree L; the answers are orders, concentrations, vectors.
+fn show_cap(
+    l: usize,
+    cosine: u64,
+    weights: &[f64],
+    latitudes: &[f64],
+    work: &mut [f64],
+    orders: &mut [f64],
+    concentrations: &mut [f64],
+    vectors: &mut [f64],
+    words: &[u64],
+)
+    requires { ⌜ length (now orders) + length (now concentrations) + length (now vectors) ≤ length (now words) ⌝ }
+{
+    let k = orders.len();
+    let at = k + concentrations.len();
+    let x = number::number_of_bits(cosine);
+    match polar_cap::polar_cap(
+        l,
+        x,
+        weights,
+        latitudes,
+        work,
+        orders,
+        concentrations,
+        vectors,
+    ) {
+        Answer::Done => {
+            show(b"polar_cap orders ", orders, words, 0);
+            show(b"polar_cap concentrations ", concentrations, words, k);
+            show(b"polar_cap vectors ", vectors, words, at);
+        }
+        Answer::Refused(_) => {
+            io::write_all(1, b"polar_cap refused\n");
+        }
+    }
 }
 
 // The cap to degree 0.
-fn print_cap_0() {
-    let cosine = number::number_of_bits(averages::CAP_0_COSINE[0]);
+fn show_cap_0() {
     let mut weights = [0.0; 1];
     let mut latitudes = [0.0; 2];
     replay::load(&averages::CAP_0_WEIGHTS, 0, &mut weights);
@@ -150,40 +209,21 @@ fn print_cap_0() {
     let mut orders = [0.0; 1];
     let mut concentrations = [0.0; 1];
     let mut vectors = [0.0; 1];
-    match polar_cap::polar_cap(
+    show_cap(
         0,
-        cosine,
+        averages::CAP_0_COSINE[0],
         &weights,
         &latitudes,
         &mut work,
         &mut orders,
         &mut concentrations,
         &mut vectors,
-    ) {
-        Answer::Done => {
-            print(
-                b"cap orders ",
-                replay::same(&orders, &averages::CAP_0, 0),
-                1,
-            );
-            print(
-                b"cap concentrations ",
-                replay::same(&concentrations, &averages::CAP_0, 1),
-                1,
-            );
-            print(
-                b"cap vectors ",
-                replay::same(&vectors, &averages::CAP_0, 2),
-                1,
-            );
-        }
-        Answer::Refused(_) => print(b"cap refused ", 0, 1),
-    }
+        &averages::CAP_0,
+    );
 }
 
 // The cap to degree 1.
-fn print_cap_1() {
-    let cosine = number::number_of_bits(averages::CAP_1_COSINE[0]);
+fn show_cap_1() {
     let mut weights = [0.0; 2];
     let mut latitudes = [0.0; 4];
     replay::load(&averages::CAP_1_WEIGHTS, 0, &mut weights);
@@ -192,40 +232,21 @@ fn print_cap_1() {
     let mut orders = [0.0; 3];
     let mut concentrations = [0.0; 3];
     let mut vectors = [0.0; 5];
-    match polar_cap::polar_cap(
+    show_cap(
         1,
-        cosine,
+        averages::CAP_1_COSINE[0],
         &weights,
         &latitudes,
         &mut work,
         &mut orders,
         &mut concentrations,
         &mut vectors,
-    ) {
-        Answer::Done => {
-            print(
-                b"cap orders ",
-                replay::same(&orders, &averages::CAP_1, 0),
-                3,
-            );
-            print(
-                b"cap concentrations ",
-                replay::same(&concentrations, &averages::CAP_1, 3),
-                3,
-            );
-            print(
-                b"cap vectors ",
-                replay::same(&vectors, &averages::CAP_1, 6),
-                5,
-            );
-        }
-        Answer::Refused(_) => print(b"cap refused ", 0, 3),
-    }
+        &averages::CAP_1,
+    );
 }
 
 // The cap to degree 2.
-fn print_cap_2() {
-    let cosine = number::number_of_bits(averages::CAP_2_COSINE[0]);
+fn show_cap_2() {
     let mut weights = [0.0; 3];
     let mut latitudes = [0.0; 6];
     replay::load(&averages::CAP_2_WEIGHTS, 0, &mut weights);
@@ -234,39 +255,44 @@ fn print_cap_2() {
     let mut orders = [0.0; 6];
     let mut concentrations = [0.0; 6];
     let mut vectors = [0.0; 14];
-    match polar_cap::polar_cap(
+    show_cap(
         2,
-        cosine,
+        averages::CAP_2_COSINE[0],
         &weights,
         &latitudes,
         &mut work,
         &mut orders,
         &mut concentrations,
         &mut vectors,
-    ) {
-        Answer::Done => {
-            print(
-                b"cap orders ",
-                replay::same(&orders, &averages::CAP_2, 0),
-                6,
-            );
-            print(
-                b"cap concentrations ",
-                replay::same(&concentrations, &averages::CAP_2, 6),
-                6,
-            );
-            print(
-                b"cap vectors ",
-                replay::same(&vectors, &averages::CAP_2, 12),
-                14,
-            );
-        }
-        Answer::Refused(_) => print(b"cap refused ", 0, 6),
-    }
+        &averages::CAP_2,
+    );
+}
+
+// The cap to degree 6.
+fn show_cap_6() {
+    let mut weights = [0.0; 7];
+    let mut latitudes = [0.0; 14];
+    replay::load(&averages::CAP_6_WEIGHTS, 0, &mut weights);
+    replay::load(&averages::CAP_6_LATITUDES, 0, &mut latitudes);
+    let mut work = [0.0; 511];
+    let mut orders = [0.0; 28];
+    let mut concentrations = [0.0; 28];
+    let mut vectors = [0.0; 140];
+    show_cap(
+        6,
+        averages::CAP_6_COSINE[0],
+        &weights,
+        &latitudes,
+        &mut work,
+        &mut orders,
+        &mut concentrations,
+        &mut vectors,
+        &averages::CAP_6,
+    );
 }
 
 // The cap to degree 18.
-fn print_cap_18() {
+fn show_cap_18() {
     let cosine = number::number_of_bits(averages::CAP_18_COSINE[0]);
     let mut weights = [0.0; 19];
     let mut latitudes = [0.0; 38];
@@ -287,62 +313,71 @@ fn print_cap_18() {
         &mut vectors,
     ) {
         Answer::Done => {
-            print(
-                b"cap orders ",
-                replay::same(&orders, &averages::CAP_18, 0),
-                190,
-            );
-            print(
-                b"cap concentrations ",
-                replay::same(&concentrations, &averages::CAP_18, 190),
+            show(b"polar_cap 18 orders ", &orders, &averages::CAP_18, 0);
+            show(
+                b"polar_cap 18 concentrations ",
+                &concentrations,
+                &averages::CAP_18,
                 190,
             );
         }
-        Answer::Refused(_) => print(b"cap refused ", 0, 190),
+        Answer::Refused(_) => {
+            io::write_all(1, b"polar_cap 18 refused\n");
+        }
     }
 }
 
-fn main() {
-    print_grid(
+fn grids_of_3() {
+    show_grid(
         Functional::GeoidHeight,
         &grids::C,
         &grids::S,
         &grids::GEOID_HEIGHT,
     );
-    print_grid(
+    show_grid(
         Functional::WaterHeight,
         &grids::C,
         &grids::S,
         &grids::WATER_HEIGHT,
     );
-    print_grid(
+    show_grid(
         Functional::GeoidHeight,
         &grids::SPECIAL_C,
         &grids::SPECIAL_S,
         &grids::SPECIAL_GEOID_HEIGHT,
     );
-    print_grid(
+    show_grid(
         Functional::WaterHeight,
         &grids::SPECIAL_C,
         &grids::SPECIAL_S,
         &grids::SPECIAL_WATER_HEIGHT,
     );
-    print_averages(
+}
+
+fn both_averages() {
+    show_averages(
         &averages::C,
         &averages::S,
         &averages::KERNEL_C,
         &averages::KERNEL_S,
         &averages::AVERAGES,
     );
-    print_averages(
+    show_averages(
         &averages::SPECIAL_C,
         &averages::SPECIAL_S,
         &averages::SPECIAL_KERNEL_C,
         &averages::SPECIAL_KERNEL_S,
         &averages::SPECIAL_AVERAGES,
     );
-    print_cap_0();
-    print_cap_1();
-    print_cap_2();
-    print_cap_18();
+}
+
+fn main() {
+    grids_of_3();
+    show_large_grid();
+    both_averages();
+    show_cap_0();
+    show_cap_1();
+    show_cap_2();
+    show_cap_6();
+    show_cap_18();
 }

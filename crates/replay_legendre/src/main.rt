@@ -5,46 +5,37 @@ mod answers;
 use legendre::Latitude;
 use refusal::Answer;
 use refusal::Number;
+use replay::show;
 ghost use mathlib.Core.Path.{_≡_};
 ghost use Prim.Native.Nat.{_+_, _≤_};
 ghost use lib.ListN.{length};
 
-fn one_if(b: bool) -> usize
-    ensures { λ r. ⌜ r ≤ 1 ⌝ }
-{
-    if b { 1 } else { 0 }
-}
-
-fn print(name: &[u8], right: usize, all: usize) {
-    io::write_all(1, name);
-    io::print_decimal(1, right as u64);
-    io::write_all(1, b" of ");
-    io::print_decimal(1, all as u64);
-    io::write_all(1, b"\n");
-}
-
-fn print_new() {
+fn show_new() {
     let mut a = [0.0; 15];
     let mut b = [0.0; 15];
     match legendre::new(4, &mut a, &mut b) {
         Answer::Done => {
-            print(b"new a ", replay::same(&a, &answers::A, 0), 15);
-            print(b"new b ", replay::same(&b, &answers::B, 0), 15);
+            show(b"new a ", &a, &answers::A, 0);
+            show(b"new b ", &b, &answers::B, 0);
         }
-        Answer::Refused(_) => print(b"new refused ", 0, 30),
+        Answer::Refused(_) => {
+            io::write_all(1, b"new refused\n");
+        }
     }
 }
 
-// One entry by the call for it, 1 where it is the oracle's.
-fn entry(table: &[f64; 15], n: usize, m: usize, word: u64) -> usize {
-    match legendre::p(4, table, n, m) {
-        Number::Value(x) => one_if(number::bits_of_number(x) == word),
-        Number::Refused(_) => 0,
+// The entry of degree 3 and order 2 by the call for it.
+fn show_entry(table: &[f64; 15], words: &[u64; 32]) {
+    match legendre::p(4, table, 3, 2) {
+        Number::Value(x) => show(b"p(3, 2) ", &[x], words, 10),
+        Number::Refused(_) => {
+            io::write_all(1, b"p(3, 2) refused\n");
+        }
     }
 }
 
 // P and its derivatives at one latitude: a row of the answers has t, u, 15 numbers of each.
-fn print_at(a: &[u64; 15], b: &[u64; 15], words: &[u64; 32]) {
+fn show_at(a: &[u64; 15], b: &[u64; 15], words: &[u64; 32]) {
     let mut la = [0.0; 15];
     let mut lb = [0.0; 15];
     replay::load(a, 0, &mut la);
@@ -56,18 +47,52 @@ fn print_at(a: &[u64; 15], b: &[u64; 15], words: &[u64; 32]) {
     let mut p = [0.0; 15];
     let mut dp = [0.0; 15];
     match legendre::compute(4, latitude, &la, &lb, &mut p) {
-        Answer::Done => print(b"compute ", replay::same(&p, words, 2), 15),
-        Answer::Refused(_) => print(b"compute refused ", 0, 15),
+        Answer::Done => show(b"compute ", &p, words, 2),
+        Answer::Refused(_) => {
+            io::write_all(1, b"compute refused\n");
+        }
     }
     match legendre::compute_with_derivative(4, latitude, &la, &lb, &mut p, &mut dp) {
-        Answer::Done => print(b"derivative ", replay::same(&dp, words, 17), 15),
-        Answer::Refused(_) => print(b"derivative refused ", 0, 15),
+        Answer::Done => show(b"compute_with_derivative ", &dp, words, 17),
+        Answer::Refused(_) => {
+            io::write_all(1, b"compute_with_derivative refused\n");
+        }
     }
-    print(b"entry ", entry(&p, 3, 2, words[10]), 1);
+    show_entry(&p, words);
+}
+
+// A table up to degree 130 at the first latitude: P of degree 130, 131 numbers, then the derivatives.
+fn show_large() {
+    let mut a = [0.0; 8646];
+    let mut b = [0.0; 8646];
+    legendre::new(130, &mut a, &mut b);
+    let latitude = Latitude {
+        t: number::number_of_bits(answers::MIDDLE[0]),
+        u: number::number_of_bits(answers::MIDDLE[1]),
+    };
+    let mut p = [0.0; 8646];
+    let mut dp = [0.0; 8646];
+    match legendre::compute_with_derivative(130, latitude, &a, &b, &mut p, &mut dp) {
+        Answer::Done => {
+            show_row(b"compute_with_derivative 130, p ", &p, 0);
+            show_row(b"compute_with_derivative 130, dp ", &dp, 131);
+        }
+        Answer::Refused(_) => {
+            io::write_all(1, b"compute_with_derivative 130 refused\n");
+        }
+    }
+}
+
+// The last row of a table up to degree 130.
+fn show_row(name: &[u8], table: &[f64], at: usize)
+    requires { ⌜ length (now table) ≡ 8646 ⌝ ∗ ⌜ at ≤ 131 ⌝ ∗ ⌜ length (now name) ≤ 80 ⌝ }
+{
+    let from = 8515;
+    show(name, &table[from..], &answers::LARGE, at);
 }
 
 // A rule: a row of the answers has the guesses, the nodes and the weights.
-fn print_rule(words: &[u64], guesses: &mut [f64], x: &mut [f64], w: &mut [f64])
+fn show_rule(words: &[u64], guesses: &mut [f64], x: &mut [f64], w: &mut [f64])
     requires { ⌜ length (now guesses) + length (now x) + length (now x) ≤ length (now words) ⌝ ∗ ⌜ length (now x) ≡ length (now w) ⌝ }
 {
     let half = guesses.len();
@@ -75,54 +100,66 @@ fn print_rule(words: &[u64], guesses: &mut [f64], x: &mut [f64], w: &mut [f64])
     replay::load(words, 0, guesses);
     match quadrature::gauss_legendre(n, guesses, x, w) {
         Answer::Done => {
-            print(b"nodes ", replay::same(x, words, half), n);
-            print(b"weights ", replay::same(w, words, half + n), n);
+            show(b"gauss_legendre nodes ", x, words, half);
+            show(b"gauss_legendre weights ", w, words, half + n);
         }
-        Answer::Refused(_) => print(b"gauss_legendre refused ", 0, n),
+        Answer::Refused(_) => {
+            io::write_all(1, b"gauss_legendre refused\n");
+        }
     }
 }
 
-fn print_short_rules() {
+fn show_short_rules() {
     let mut guesses = [0.0; 1];
     let mut x1 = [0.0; 1];
     let mut w1 = [0.0; 1];
-    print_rule(&answers::GAUSS_ONE, &mut guesses, &mut x1, &mut w1);
+    show_rule(&answers::GAUSS_ONE, &mut guesses, &mut x1, &mut w1);
     let mut x2 = [0.0; 2];
     let mut w2 = [0.0; 2];
-    print_rule(&answers::GAUSS_TWO, &mut guesses, &mut x2, &mut w2);
+    show_rule(&answers::GAUSS_TWO, &mut guesses, &mut x2, &mut w2);
 }
 
-fn print_three() {
+// A guess so far from the root that a hundred corrections do not reach it.
+fn show_far() {
+    let mut guesses = [0.0; 1];
+    let mut x = [0.0; 2];
+    let mut w = [0.0; 2];
+    show_rule(&answers::GAUSS_FAR, &mut guesses, &mut x, &mut w);
+}
+
+fn show_three() {
     let mut guesses = [0.0; 2];
     let mut x = [0.0; 3];
     let mut w = [0.0; 3];
-    print_rule(&answers::GAUSS_THREE, &mut guesses, &mut x, &mut w);
+    show_rule(&answers::GAUSS_THREE, &mut guesses, &mut x, &mut w);
 }
 
-fn print_eight() {
+fn show_eight() {
     let mut guesses = [0.0; 4];
     let mut x = [0.0; 8];
     let mut w = [0.0; 8];
-    print_rule(&answers::GAUSS_EIGHT, &mut guesses, &mut x, &mut w);
+    show_rule(&answers::GAUSS_EIGHT, &mut guesses, &mut x, &mut w);
 }
 
 // Guesses that are no roots: NaN, 2, -0.
-fn print_strange() {
+fn show_strange() {
     let mut guesses = [0.0; 3];
     let mut x = [0.0; 5];
     let mut w = [0.0; 5];
-    print_rule(&answers::GAUSS_STRANGE, &mut guesses, &mut x, &mut w);
+    show_rule(&answers::GAUSS_STRANGE, &mut guesses, &mut x, &mut w);
 }
 
 fn main() {
-    print_new();
-    print_at(&answers::A, &answers::B, &answers::MIDDLE);
-    print_at(&answers::A, &answers::B, &answers::POLE);
-    print_at(&answers::A, &answers::B, &answers::EQUATOR);
-    print_at(&answers::A, &answers::B, &answers::OUTSIDE);
-    print_at(&answers::SPECIAL_A, &answers::SPECIAL_B, &answers::SPECIAL);
-    print_short_rules();
-    print_three();
-    print_eight();
-    print_strange();
+    show_new();
+    show_at(&answers::A, &answers::B, &answers::MIDDLE);
+    show_at(&answers::A, &answers::B, &answers::POLE);
+    show_at(&answers::A, &answers::B, &answers::EQUATOR);
+    show_at(&answers::A, &answers::B, &answers::OUTSIDE);
+    show_at(&answers::SPECIAL_A, &answers::SPECIAL_B, &answers::SPECIAL);
+    show_short_rules();
+    show_three();
+    show_eight();
+    show_strange();
+    show_far();
+    show_large();
 }

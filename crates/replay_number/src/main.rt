@@ -1,7 +1,9 @@
 // Replays the oracle's answers for the crate number (answers.rt): a line for each group, how many of our answers have the oracle's bits.
 mod answers;
 
-ghost use Prim.Native.Nat.{_≤_};
+use replay::show_words;
+ghost use Prim.Native.Nat.{_+_, _≤_};
+ghost use lib.ListN.{length};
 
 // The call of a group: which one is told by the group's number.
 fn answer(group: u64, x: u64, y: u64) -> u64 {
@@ -22,32 +24,26 @@ fn flag(b: bool) -> u64 {
     if b { 1 } else { 0 }
 }
 
-fn one_if(b: bool) -> usize
-    ensures { λ r. ⌜ r ≤ 1 ⌝ }
+// The answers of a group of one input.
+fn of_one(group: u64, inputs: &[u64], out: &mut [u64])
+    requires { ⌜ length (now out) ≤ length (now inputs) ⌝ }
 {
-    if b { 1 } else { 0 }
-}
-
-// How many answers of a group of one input are the oracle's. The list has an input, then its answer.
-fn right_of_one(group: u64, list: &[u64]) -> usize {
-    let mut right: usize = 0;
     let mut i = 0;
-    while i < list.len() / 2 {
-        right += one_if(answer(group, list[2 * i], 0) == list[2 * i + 1]);
+    while i < out.len() {
+        out[i] = answer(group, inputs[i], 0);
         i += 1;
     }
-    right
 }
 
-// The same for two inputs.
-fn right_of_two(group: u64, list: &[u64]) -> usize {
-    let mut right: usize = 0;
+// The answers of a group of two inputs.
+fn of_two(group: u64, inputs: &[u64], out: &mut [u64])
+    requires { ⌜ length (now out) + length (now out) ≤ length (now inputs) ⌝ }
+{
     let mut i = 0;
-    while i < list.len() / 3 {
-        right += one_if(answer(group, list[3 * i], list[3 * i + 1]) == list[3 * i + 2]);
+    while i < out.len() {
+        out[i] = answer(group, inputs[2 * i], inputs[2 * i + 1]);
         i += 1;
     }
-    right
 }
 
 // Whether the elements i and j of a list, neighbours in its ranking, stand in their order.
@@ -70,51 +66,99 @@ fn in_order(list: &[u64], i: u64, j: u64) -> bool {
     i < j
 }
 
-// How many neighbours of the oracle's ranking stand in our order.
-fn right_of_ranking(list: &[u64], order: &[u64]) -> usize {
-    let mut right: usize = 0;
-    let mut i: usize = 1;
-    while i < order.len() {
-        right += one_if(in_order(list, order[i - 1], order[i]));
+// For each two neighbours of the oracle's ranking, 1 where they stand in our order.
+fn neighbours(list: &[u64], order: &[u64], out: &mut [u64])
+    requires { ⌜ length (now out) + 1 ≤ length (now order) ⌝ }
+{
+    let mut i = 0;
+    while i < out.len() {
+        out[i] = flag(in_order(list, order[i], order[i + 1]));
         i += 1;
     }
-    right
 }
 
-fn print(name: &[u8], right: usize, all: usize) {
-    io::write_all(1, name);
-    io::print_decimal(1, right as u64);
-    io::write_all(1, b" of ");
-    io::print_decimal(1, all as u64);
-    io::write_all(1, b"\n");
+// The line of a ranking: each two neighbours are due in order.
+fn ranking(name: &[u8], list: &[u64], order: &[u64], out: &mut [u64])
+    requires { ⌜ length (now out) + 1 ≤ length (now order) ⌝ ∗ ⌜ length (now out) ≤ 16 ⌝ ∗ ⌜ length (now name) ≤ 80 ⌝ }
+{
+    neighbours(list, order, out);
+    show_words(name, out, &[1; 16], 0);
 }
 
-fn one(name: &[u8], group: u64, list: &[u64]) {
-    print(name, right_of_one(group, list), list.len() / 2);
+fn roots() {
+    let mut root = [0; 62];
+    of_one(0, &answers::ROOT, &mut root);
+    show_words(b"root ", &root, &answers::ROOT_ANSWERS, 0);
+    let mut hypot = [0; 45];
+    of_two(1, &answers::HYPOT, &mut hypot);
+    show_words(b"hypot ", &hypot, &answers::HYPOT_ANSWERS, 0);
+    let mut powi = [0; 53];
+    of_two(2, &answers::POWI, &mut powi);
+    show_words(b"powi ", &powi, &answers::POWI_ANSWERS, 0);
 }
 
-fn two(name: &[u8], group: u64, list: &[u64]) {
-    print(name, right_of_two(group, list), list.len() / 3);
+fn signs() {
+    let mut signum = [0; 16];
+    of_one(3, &answers::SIGNUM, &mut signum);
+    show_words(b"signum ", &signum, &answers::SIGNUM_ANSWERS, 0);
+    let mut magnitude = [0; 16];
+    of_one(4, &answers::MAGNITUDE, &mut magnitude);
+    show_words(b"magnitude ", &magnitude, &answers::MAGNITUDE_ANSWERS, 0);
+    let mut ranks = [0; 35];
+    of_two(5, &answers::RANKS_BEFORE, &mut ranks);
+    show_words(b"ranks_before ", &ranks, &answers::RANKS_BEFORE_ANSWERS, 0);
+    let mut patterns = [0; 24];
+    of_one(6, &answers::PATTERNS, &mut patterns);
+    show_words(b"patterns ", &patterns, &answers::PATTERNS_ANSWERS, 0);
 }
 
-fn ranking(list: &[u64], order: &[u64]) {
-    let all = if order.len() == 0 { 0 } else { order.len() - 1 };
-    print(b"ranking ", right_of_ranking(list, order), all);
+fn rankings() {
+    let mut of_2 = [0; 1];
+    ranking(
+        b"ranking of 2 ",
+        &answers::RANK_0,
+        &answers::RANK_0_ORDER,
+        &mut of_2,
+    );
+    let mut of_4 = [0; 3];
+    ranking(
+        b"ranking of 4 ",
+        &answers::RANK_1,
+        &answers::RANK_1_ORDER,
+        &mut of_4,
+    );
+    let mut of_5 = [0; 4];
+    ranking(
+        b"ranking of 5 ",
+        &answers::RANK_2,
+        &answers::RANK_2_ORDER,
+        &mut of_5,
+    );
+    let mut of_6 = [0; 5];
+    ranking(
+        b"ranking of 6 ",
+        &answers::RANK_3,
+        &answers::RANK_3_ORDER,
+        &mut of_6,
+    );
+    let mut of_12 = [0; 11];
+    ranking(
+        b"ranking of 12 ",
+        &answers::RANK_4,
+        &answers::RANK_4_ORDER,
+        &mut of_12,
+    );
+    let mut of_8 = [0; 7];
+    ranking(
+        b"ranking of 8 ",
+        &answers::RANK_5,
+        &answers::RANK_5_ORDER,
+        &mut of_8,
+    );
 }
 
 fn main() {
-    one(b"root ", 0, &answers::ROOT);
-    two(b"hypot ", 1, &answers::HYPOT);
-    two(b"powi ", 2, &answers::POWI);
-    one(b"signum ", 3, &answers::SIGNUM);
-    one(b"magnitude ", 4, &answers::MAGNITUDE);
-    two(b"ranks_before ", 5, &answers::RANKS_BEFORE);
-    one(b"patterns ", 6, &answers::PATTERNS);
-    ranking(&answers::RANK_0, &answers::RANK_0_ORDER);
-    ranking(&answers::RANK_1, &answers::RANK_1_ORDER);
-    ranking(&answers::RANK_2, &answers::RANK_2_ORDER);
-    ranking(&answers::RANK_3, &answers::RANK_3_ORDER);
-    ranking(&answers::RANK_4, &answers::RANK_4_ORDER);
-    ranking(&answers::RANK_5, &answers::RANK_5_ORDER);
-    ranking(&answers::RANK_6, &answers::RANK_6_ORDER);
+    roots();
+    signs();
+    rankings();
 }

@@ -312,3 +312,41 @@ pub const SPECIAL_WATER_HEIGHT: [u64; 20] = [
     0xfff0_0000_0000_0000,
     0x7ff0_0000_0000_0000,
 ];
+
+// other weights, not the same north and south
+pub const OTHER_WEIGHTS: [u64; 4] = [
+    0x3fc0_0000_0000_0000,
+    0x3fe8_0000_0000_0000,
+    0x3fd9_9999_9999_999a,
+    0x3fec_cccc_cccc_cccd,
+];
+
+// the model of the first values by these weights, as functional 1: gm, radius
+pub const OTHER_HEAD: [u64; 2] = [0x42f6_a866_5b91_1600, 0x4158_54a6_1333_3333];
+
+// its c, then s
+pub const OTHER: [u64; 20] = [
+    0x3fed_b0d2_e0fe_590a,
+    0x3feb_d43b_3bd7_e0d7,
+    0x3fc1_d740_3f24_18f3,
+    0x3fdd_7127_3a39_2fc5,
+    0xbfbe_cce4_7ad1_8eff,
+    0xbfb7_972c_29e5_0b78,
+    0x3fdd_e88b_82eb_849a,
+    0x3fa4_b754_bab3_6498,
+    0x3fb5_f9f4_dfcd_05f6,
+    0xbf98_c0ab_33d9_a90b,
+    0x0000_0000_0000_0000,
+    0x0000_0000_0000_0000,
+    0x3f78_7127_65b0_ee43,
+    0x0000_0000_0000_0000,
+    0x3f9b_83c7_2b59_4d92,
+    0x3f56_db0e_556c_c1f1,
+    0x0000_0000_0000_0000,
+    0xbf97_e6ac_d5db_7a28,
+    0xbf80_6e93_eb8c_8537,
+    0x3fa1_1d20_a1d5_2b41,
+];
+
+// the numbers of its tide and its degree
+pub const OTHER_NUMBERS: [u64; 2] = [3, 3];
