@@ -73,6 +73,23 @@ fn print_written(name: &[u8], head: FileHead, pairs: usize, c: &[u64], s: &[u64]
     }
 }
 
+// What was read of a file, and what is due.
+fn print_read(h: FileHead, cread: &[u64; 12], sread: &[u64; 12], head: &[u64; 4], c: &[u64], s: &[u64])
+    requires { ⌜ length (now c) ≤ 12 ⌝ ∗ ⌜ length (now s) ≤ 12 ⌝ }
+{
+    replay::show_words(b"head ", &words_of(h), head, 0);
+    replay_cases::print_line(b"c ", cread, c);
+    replay_cases::print_line(b"s ", sread, s);
+}
+
+// What is written of what the file holds, and of what was read.
+fn print_model(pairs: usize, h: FileHead, cread: &[u64; 12], sread: &[u64; 12], file: &[u8], head: &[u64; 4], c: &[u64], s: &[u64])
+    requires { ⌜ pairs ≤ 10 ⌝ ∗ ⌜ length (now file) ≤ 200 ⌝ ∗ ⌜ pairs ≤ length (now c) ⌝ ∗ ⌜ pairs ≤ length (now s) ⌝ }
+{
+    print_written(b"written ", head_of(head), pairs, c, s, file);
+    print_written(b"read and written ", h, pairs, cread, sread, file);
+}
+
 // A file of T pairs, with two bytes behind it in `file`, and two words behind the T in `c` and in `s`.
 fn print_file(pairs: usize, file: &[u8], head: &[u64; 4], c: &[u64], s: &[u64])
     requires { ⌜ pairs ≤ 10 ⌝ ∗ ⌜ length (now file) ≡ 17 * pairs + 23 ⌝ ∗ ⌜ length (now c) ≡ pairs + 2 ⌝ ∗ ⌜ length (now s) ≡ pairs + 2 ⌝ }
@@ -85,11 +102,8 @@ fn print_file(pairs: usize, file: &[u8], head: &[u64; 4], c: &[u64], s: &[u64])
             io::write_all(1, b"read refused\n");
         }
         Reading::Model(h) => {
-            replay::show_words(b"head ", &words_of(h), head, 0);
-            replay_cases::print_line(b"c ", &cread, c);
-            replay_cases::print_line(b"s ", &sread, s);
-            print_written(b"written ", head_of(head), pairs, c, s, file);
-            print_written(b"read and written ", h, pairs, &cread, &sread, file);
+            print_read(h, &cread, &sread, head, c, s);
+            print_model(pairs, h, &cread, &sread, file, head, c, s);
         }
     }
 }
