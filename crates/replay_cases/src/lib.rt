@@ -8,7 +8,9 @@ ghost use lib.ListN.{length};
 
 // What stands in every place of a list that is lent to be written.
 pub const MARK: f64 = 1234.5;
+
 pub const MARK_WORD: u64 = 0x5a5a_1234_5a5a_9876;
+
 pub const MARK_BYTE: u8 = 0xa5;
 
 // What is seen of a call: the number of its refusal, 0 where there is none, and what it has changed in the lists that it was lent.

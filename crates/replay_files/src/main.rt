@@ -13,6 +13,7 @@ ghost use lib.ListN.{length};
 
 // What stands in lists before a call.
 const WORD: u64 = 0x5a5a_1234_5a5a_9876;
+
 const BYTE: u8 = 0xa5;
 
 // Document 01's numbers of the tide systems.
@@ -74,7 +75,14 @@ fn print_written(name: &[u8], head: FileHead, pairs: usize, c: &[u64], s: &[u64]
 }
 
 // What was read of a file, and what is due.
-fn print_read(h: FileHead, cread: &[u64; 12], sread: &[u64; 12], head: &[u64; 4], c: &[u64], s: &[u64])
+fn print_read(
+    h: FileHead,
+    cread: &[u64; 12],
+    sread: &[u64; 12],
+    head: &[u64; 4],
+    c: &[u64],
+    s: &[u64],
+)
     requires { ⌜ length (now c) ≤ 12 ⌝ ∗ ⌜ length (now s) ≤ 12 ⌝ }
 {
     replay::show_words(b"head ", &words_of(h), head, 0);
@@ -83,7 +91,16 @@ fn print_read(h: FileHead, cread: &[u64; 12], sread: &[u64; 12], head: &[u64; 4]
 }
 
 // What is written of what the file holds, and of what was read.
-fn print_model(pairs: usize, h: FileHead, cread: &[u64; 12], sread: &[u64; 12], file: &[u8], head: &[u64; 4], c: &[u64], s: &[u64])
+fn print_model(
+    pairs: usize,
+    h: FileHead,
+    cread: &[u64; 12],
+    sread: &[u64; 12],
+    file: &[u8],
+    head: &[u64; 4],
+    c: &[u64],
+    s: &[u64],
+)
     requires { ⌜ pairs ≤ 10 ⌝ ∗ ⌜ length (now file) ≤ 200 ⌝ ∗ ⌜ pairs ≤ length (now c) ⌝ ∗ ⌜ pairs ≤ length (now s) ⌝ }
 {
     print_written(b"written ", head_of(head), pairs, c, s, file);

@@ -78,16 +78,36 @@ fn print_models() {
     print(b"zeros ", 1, &cases::ZEROS, &cases::ZEROS_DUE);
     print(b"truncated ", 2, &cases::TRUNCATED, &cases::TRUNCATED_DUE);
     print(b"rescaled ", 3, &cases::RESCALED, &cases::RESCALED_DUE);
-    print(b"degree_variances ", 4, &cases::DEGREE_VARIANCES, &cases::DEGREE_VARIANCES_DUE);
-    print(b"degree_amplitudes ", 5, &cases::DEGREE_AMPLITUDES, &cases::DEGREE_AMPLITUDES_DUE);
+    print(
+        b"degree_variances ",
+        4,
+        &cases::DEGREE_VARIANCES,
+        &cases::DEGREE_VARIANCES_DUE,
+    );
+    print(
+        b"degree_amplitudes ",
+        5,
+        &cases::DEGREE_AMPLITUDES,
+        &cases::DEGREE_AMPLITUDES_DUE,
+    );
     print(b"c ", 6, &cases::ENTRY, &cases::ENTRY_DUE);
     print(b"s ", 7, &cases::ENTRY, &cases::ENTRY_DUE);
     print(b"set ", 8, &cases::SET, &cases::SET_DUE);
 }
 
 fn print_tables() {
-    print(b"legendre new ", 9, &cases::LEGENDRE_NEW, &cases::LEGENDRE_NEW_DUE);
-    print(b"legendre compute ", 10, &cases::LEGENDRE_COMPUTE, &cases::LEGENDRE_COMPUTE_DUE);
+    print(
+        b"legendre new ",
+        9,
+        &cases::LEGENDRE_NEW,
+        &cases::LEGENDRE_NEW_DUE,
+    );
+    print(
+        b"legendre compute ",
+        10,
+        &cases::LEGENDRE_COMPUTE,
+        &cases::LEGENDRE_COMPUTE_DUE,
+    );
     print(
         b"legendre compute_with_derivative ",
         11,
@@ -96,23 +116,83 @@ fn print_tables() {
     );
     print(b"legendre p ", 12, &cases::ENTRY, &cases::ENTRY_DUE);
     print(b"legendre dp ", 13, &cases::ENTRY, &cases::ENTRY_DUE);
-    print(b"gauss_legendre ", 14, &cases::GAUSS_LEGENDRE, &cases::GAUSS_LEGENDRE_DUE);
+    print(
+        b"gauss_legendre ",
+        14,
+        &cases::GAUSS_LEGENDRE,
+        &cases::GAUSS_LEGENDRE_DUE,
+    );
 }
 
 fn print_heads() {
     replay::show_words(b"head of zeros ", &models::zeros_head(0), &cases::HEADS, 0);
     replay::show_words(b"head of zeros ", &models::zeros_head(1), &cases::HEADS, 4);
-    replay::show_words(b"head of truncated ", &models::truncated_head(0, 0), &cases::HEADS, 8);
-    replay::show_words(b"head of truncated ", &models::truncated_head(1, 0), &cases::HEADS, 12);
-    replay::show_words(b"head of truncated ", &models::truncated_head(2, 0), &cases::HEADS, 16);
-    replay::show_words(b"head of truncated ", &models::truncated_head(3, 0), &cases::HEADS, 20);
-    replay::show_words(b"head of truncated ", &models::truncated_head(0, 1), &cases::HEADS, 24);
-    replay::show_words(b"head of truncated ", &models::truncated_head(1, 2), &cases::HEADS, 28);
-    replay::show_words(b"head of truncated ", &models::truncated_head(2, 2701), &cases::HEADS, 32);
-    replay::show_words(b"head of rescaled ", &models::rescaled_head(0), &cases::HEADS, 36);
-    replay::show_words(b"head of rescaled ", &models::rescaled_head(1), &cases::HEADS, 40);
-    replay::show_words(b"head of rescaled ", &models::rescaled_head(2), &cases::HEADS, 44);
-    replay::show_words(b"head of rescaled ", &models::rescaled_head(3), &cases::HEADS, 48);
+    replay::show_words(
+        b"head of truncated ",
+        &models::truncated_head(0, 0),
+        &cases::HEADS,
+        8,
+    );
+    replay::show_words(
+        b"head of truncated ",
+        &models::truncated_head(1, 0),
+        &cases::HEADS,
+        12,
+    );
+    replay::show_words(
+        b"head of truncated ",
+        &models::truncated_head(2, 0),
+        &cases::HEADS,
+        16,
+    );
+    replay::show_words(
+        b"head of truncated ",
+        &models::truncated_head(3, 0),
+        &cases::HEADS,
+        20,
+    );
+    replay::show_words(
+        b"head of truncated ",
+        &models::truncated_head(0, 1),
+        &cases::HEADS,
+        24,
+    );
+    replay::show_words(
+        b"head of truncated ",
+        &models::truncated_head(1, 2),
+        &cases::HEADS,
+        28,
+    );
+    replay::show_words(
+        b"head of truncated ",
+        &models::truncated_head(2, 2701),
+        &cases::HEADS,
+        32,
+    );
+    replay::show_words(
+        b"head of rescaled ",
+        &models::rescaled_head(0),
+        &cases::HEADS,
+        36,
+    );
+    replay::show_words(
+        b"head of rescaled ",
+        &models::rescaled_head(1),
+        &cases::HEADS,
+        40,
+    );
+    replay::show_words(
+        b"head of rescaled ",
+        &models::rescaled_head(2),
+        &cases::HEADS,
+        44,
+    );
+    replay::show_words(
+        b"head of rescaled ",
+        &models::rescaled_head(3),
+        &cases::HEADS,
+        48,
+    );
 }
 
 fn main() {

@@ -13,7 +13,14 @@ ghost use Prim.Native.Nat.{_*_, _≤_};
 ghost use lib.ListN.{length};
 
 // One case of an entry on numbers.
-fn answer(which: usize, case: &[u64], list: &[f64], w: &mut [f64], x: &mut [f64], y: &mut [f64]) -> u64
+fn answer(
+    which: usize,
+    case: &[u64],
+    list: &[f64],
+    w: &mut [f64],
+    x: &mut [f64],
+    y: &mut [f64],
+) -> u64
     requires { ⌜ (64 ≤ length (now list)) × (64 ≤ length (now w)) × (64 ≤ length (now x)) × (64 ≤ length (now y)) ⌝ }
 {
     match which {
@@ -75,13 +82,33 @@ fn print(name: &[u8], which: usize, cases: &[u64], due: &[u64])
 
 fn main() {
     print(b"factor ", 0, &cases::FACTOR, &cases::FACTOR_DUE);
-    print(b"degree_amplitudes ", 1, &cases::DEGREE_AMPLITUDES, &cases::DEGREE_AMPLITUDES_DUE);
+    print(
+        b"degree_amplitudes ",
+        1,
+        &cases::DEGREE_AMPLITUDES,
+        &cases::DEGREE_AMPLITUDES_DUE,
+    );
     print(b"grid ", 2, &cases::GRID, &cases::GRID_DUE);
-    print(b"basin_average ", 3, &cases::BASIN_AVERAGE, &cases::BASIN_AVERAGE_DUE);
+    print(
+        b"basin_average ",
+        3,
+        &cases::BASIN_AVERAGE,
+        &cases::BASIN_AVERAGE_DUE,
+    );
     print(b"analysis ", 4, &cases::ANALYSIS, &cases::ANALYSIS_DUE);
     print(b"partials ", 5, &cases::PARTIALS, &cases::PARTIALS_DUE);
     print(b"acceleration_neu ", 6, &cases::THREE, &cases::THREE_DUE);
     print(b"gravity_neu ", 7, &cases::THREE, &cases::THREE_DUE);
-    print(b"model_read ", 8, &cases::MODEL_READ, &cases::MODEL_READ_DUE);
-    print(b"model_write ", 9, &cases::MODEL_WRITE, &cases::MODEL_WRITE_DUE);
+    print(
+        b"model_read ",
+        8,
+        &cases::MODEL_READ,
+        &cases::MODEL_READ_DUE,
+    );
+    print(
+        b"model_write ",
+        9,
+        &cases::MODEL_WRITE,
+        &cases::MODEL_WRITE_DUE,
+    );
 }

@@ -14,7 +14,15 @@ ghost use Prim.Native.Nat.{_*_, _≤_};
 ghost use lib.ListN.{length};
 
 // One case of a call.
-fn answer(which: usize, case: &[u64], list: &[f64], w: &mut [f64], x: &mut [f64], y: &mut [f64], z: &mut [f64]) -> u64
+fn answer(
+    which: usize,
+    case: &[u64],
+    list: &[f64],
+    w: &mut [f64],
+    x: &mut [f64],
+    y: &mut [f64],
+    z: &mut [f64],
+) -> u64
     requires { ⌜ (64 ≤ length (now list)) × (64 ≤ length (now w)) × (64 ≤ length (now x)) × (64 ≤ length (now y)) × (64 ≤ length (now z)) ⌝ }
 {
     match which {
@@ -68,7 +76,13 @@ fn print(name: &[u8], which: usize, cases: &[u64], due: &[u64])
 }
 
 // The head of an analysed model.
-fn head_of(nmax: usize, values: &[f64], weights: &[f64], latitudes: &[f64], trig: &[f64]) -> [u64; 4] {
+fn head_of(
+    nmax: usize,
+    values: &[f64],
+    weights: &[f64],
+    latitudes: &[f64],
+    trig: &[f64],
+) -> [u64; 4] {
     let love = [0.5; 1];
     let mut work = [0.5; 9];
     let mut c = [0.5; 3];
@@ -112,12 +126,32 @@ fn print_heads() {
 
 fn main() {
     print(b"grid ", 0, &cases::GRID, &cases::GRID_DUE);
-    print(b"basin_average ", 1, &cases::BASIN_AVERAGE, &cases::BASIN_AVERAGE_DUE);
+    print(
+        b"basin_average ",
+        1,
+        &cases::BASIN_AVERAGE,
+        &cases::BASIN_AVERAGE_DUE,
+    );
     print(b"partials ", 2, &cases::PARTIALS, &cases::PARTIALS_DUE);
-    print(b"partials_along ", 3, &cases::PARTIALS_ALONG, &cases::PARTIALS_ALONG_DUE);
+    print(
+        b"partials_along ",
+        3,
+        &cases::PARTIALS_ALONG,
+        &cases::PARTIALS_ALONG_DUE,
+    );
     print(b"analysis ", 4, &cases::ANALYSIS, &cases::ANALYSIS_DUE);
-    print(b"symmetric_eigen ", 5, &cases::SYMMETRIC_EIGEN, &cases::SYMMETRIC_EIGEN_DUE);
-    print(b"householder_ql ", 6, &cases::HOUSEHOLDER_QL, &cases::HOUSEHOLDER_QL_DUE);
+    print(
+        b"symmetric_eigen ",
+        5,
+        &cases::SYMMETRIC_EIGEN,
+        &cases::SYMMETRIC_EIGEN_DUE,
+    );
+    print(
+        b"householder_ql ",
+        6,
+        &cases::HOUSEHOLDER_QL,
+        &cases::HOUSEHOLDER_QL_DUE,
+    );
     print(b"polar_cap ", 7, &cases::POLAR_CAP, &cases::POLAR_CAP_DUE);
     print_heads();
 }
