@@ -1,4 +1,4 @@
-//! Writing of Rattle constants: arrays of u64.
+//! Writing of Rattle constants: arrays of u64, and of bytes.
 
 /// A number as its bit pattern in hexadecimal, any NaN as 7ff8000000000000.
 pub fn number(x: f64) -> String {
@@ -12,7 +12,16 @@ pub fn hexadecimal(bits: u64) -> String {
 
 /// A constant array of numbers written out, in the layout of `rt fmt`: on one line where it is short, else one to a line.
 pub fn array(comment: &str, name: &str, numbers: &[String]) -> String {
+    array_of("u64", comment, name, numbers)
+}
+
+/// The same of bytes, in decimal.
+pub fn bytes(comment: &str, name: &str, bytes: &[u8]) -> String {
+    array_of("u8", comment, name, &bytes.iter().map(u8::to_string).collect::<Vec<_>>())
+}
+
+fn array_of(element: &str, comment: &str, name: &str, numbers: &[String]) -> String {
     let line = numbers.join(", ");
     let list = if line.len() <= 58 { line } else { format!("\n    {},\n", numbers.join(",\n    ")) };
-    format!("\n// {comment}\npub const {name}: [u64; {}] = [{list}];\n", numbers.len())
+    format!("\n// {comment}\npub const {name}: [{element}; {}] = [{list}];\n", numbers.len())
 }

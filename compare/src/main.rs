@@ -17,6 +17,7 @@ mod number;
 mod oracle_check;
 mod partials;
 mod refusal;
+mod refusals;
 mod sizes;
 mod slepian;
 mod synthesis;
@@ -35,7 +36,8 @@ usage: compare [--seed NUMBER] [--quick] [SUBJECT...]   same bits as the oracle,
        compare bench [SUBJECT...]                       ours, the Rust's, their ratio
        compare replay SUBJECT FILE                      write the oracle's answers as Rattle constants
        compare margins FILE [COUNT [SEED]]              write values and their sums' numbers, for margins.py
-subjects: number, functional, coefficients, model_file, legendre, synthesis, partials, analysis, linalg, slepian, lengths";
+subjects: number, functional, coefficients, model_file, legendre, synthesis, partials, analysis, linalg, slepian, lengths; for replay also refusals,
+          refusals_files, refusals_fields, refusals_c";
 
 /// One crate of the library: what can be done with it here.
 struct Subject {
@@ -77,6 +79,10 @@ const SUBJECTS: &[Subject] = &[
     Subject { name: "linalg", compare: linalg::compare, bench: Some(linalg::bench::bench), replay: Some(linalg::replay::replay) },
     Subject { name: "slepian", compare: slepian::compare, bench: Some(slepian::bench::bench), replay: Some(slepian::replay::replay) },
     Subject { name: "lengths", compare: lengths::compare, bench: None, replay: None },
+    Subject { name: "refusals", compare: |_| (), bench: None, replay: Some(refusals::models::replay) },
+    Subject { name: "refusals_files", compare: |_| (), bench: None, replay: Some(refusals::files::replay) },
+    Subject { name: "refusals_fields", compare: |_| (), bench: None, replay: Some(refusals::fields::replay) },
+    Subject { name: "refusals_c", compare: |_| (), bench: None, replay: Some(refusals::entries::replay) },
 ];
 
 fn subject(name: &str) -> Result<&'static Subject, String> {

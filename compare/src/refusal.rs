@@ -29,6 +29,8 @@ pub fn pairs(nmax: usize) -> u128 {
 pub struct Checks<'a> {
     /// N; for one factor, its n.
     pub degree: usize,
+    /// Other sizes, each beside the largest that passes.
+    pub sizes: &'a [(usize, usize)],
     pub inputs: &'a [(usize, u128)],
     /// The degree and order of one entry.
     pub place: Option<(usize, usize)>,
@@ -41,7 +43,7 @@ impl Checks<'_> {
     /// The number of the refusal due, 0 where the call is accepted.
     pub fn due(&self) -> u32 {
         let table = [
-            (SIZE, self.degree > MAX_DEGREE),
+            (SIZE, self.degree > MAX_DEGREE || self.sizes.iter().any(|(size, largest)| size > largest)),
             (LENGTH, self.inputs.iter().any(|&(length, stated)| length as u128 != stated)),
             (PLACE, self.place.is_some_and(|(n, m)| m > n || n > self.degree)),
             (LOVE, self.love.is_some_and(|length| (length as u128) < self.degree as u128 + 1)),

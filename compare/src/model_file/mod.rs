@@ -2,7 +2,7 @@
 
 pub mod bench;
 mod damage;
-mod format;
+pub mod format;
 pub mod replay;
 
 use crate::cases::Cases;

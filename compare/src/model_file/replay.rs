@@ -1,52 +1,69 @@
-//! One small file with what it holds, and the refusals of its damaged copies, by the plain reader.
+//! Small files with what they hold, by the plain writer. What a list has behind its answer is written out too: it must stay as it was.
 
-use super::format::{self, Model, file};
-use crate::constants::{array, hexadecimal};
+use super::format::{Model, file};
+use crate::constants::{array, bytes, hexadecimal};
 
-/// A model of degree 1 whose bits must all survive: a NaN with a payload and a signalling one, zeros, infinity, a subnormal.
-fn example() -> Model {
-    Model {
-        gm: 3.986004415e14f64.to_bits(),
-        radius: 0xfff4_0123_4567_89ab,
-        tide: 1,
-        nmax: 1,
-        c: vec![0x8000_0000_0000_0000, 0x7ff8_dead_beef_0001, 1],
-        s: vec![0, 0x7ff0_0000_0000_0001, 0xfff0_0000_0000_0000],
-    }
+/// A list that is lent has so many places behind the answer.
+const BEHIND: usize = 2;
+/// What stands in lists before a call.
+const WORD: u64 = 0x5a5a_1234_5a5a_9876;
+const BYTE: u8 = 0xa5;
+
+const QUIET: u64 = 0x7ff8_dead_beef_0001;
+const NEGATIVE_QUIET: u64 = 0xfffc_0bad_cafe_7e57;
+const SIGNALLING: u64 = 0x7ff0_0000_0000_0001;
+const NEGATIVE_SIGNALLING: u64 = 0xfff4_0123_4567_89ab;
+const NEGATIVE_ZERO: u64 = 1 << 63;
+
+/// Degrees 0 to 3 and tides 0 to 3; gm is never radius, c never s; NaNs of every kind and -0 stand among the pairs, in gm and in radius.
+fn models() -> [Model; 8] {
+    let (gm, radius) = (3.986004415e14f64.to_bits(), 6378136.3f64.to_bits());
+    let model = |gm, radius, tide, nmax, c: &[u64], s: &[u64]| Model { gm, radius, tide, nmax, c: c.to_vec(), s: s.to_vec() };
+    let number = |x: f64| x.to_bits();
+    let long_c = [1.0, 0.25, -0.3, -4.841694e-4, -1.9e-10, 2.4393836e-6, 9.5716e-7, 2.0304e-6].map(number);
+    let long_s = [0.0, 1e-310, 0.7, f64::INFINITY, 1.2e-9, -1.4002737e-6, f64::MAX, 2.482e-7].map(number);
+    [
+        model(gm, radius, 0, 0, &[number(1.0)], &[NEGATIVE_ZERO]),
+        model(gm, radius, 1, 1, &[NEGATIVE_ZERO, QUIET, 1], &[0, SIGNALLING, number(f64::NEG_INFINITY)]),
+        model(
+            radius,
+            gm,
+            2,
+            2,
+            &[NEGATIVE_SIGNALLING, NEGATIVE_QUIET, number(0.1), number(-0.7), 0x0102_0304_0506_0708, u64::MAX],
+            &[QUIET, NEGATIVE_ZERO, SIGNALLING, number(5.0), 0xf1e2_d3c4_b5a6_9788, 0x7fff_ffff_ffff_ffff],
+        ),
+        model(
+            gm,
+            radius,
+            3,
+            3,
+            &[&long_c[..], &[SIGNALLING, NEGATIVE_ZERO]].concat(),
+            &[&long_s[..], &[NEGATIVE_QUIET, NEGATIVE_SIGNALLING]].concat(),
+        ),
+        model(QUIET, NEGATIVE_SIGNALLING, 3, 0, &[QUIET], &[NEGATIVE_QUIET]),
+        model(NEGATIVE_ZERO, SIGNALLING, 2, 1, &[2, 3, 4], &[5, 6, 7]),
+        model(NEGATIVE_QUIET, NEGATIVE_ZERO, 1, 0, &[SIGNALLING], &[QUIET]),
+        model(0x0123_4567_89ab_cdef, 0xfedc_ba98_7654_3210, 0, 2, &[1, 2, 3, 4, 5, 6], &[11, 12, 13, 14, 15, 16]),
+    ]
 }
 
-/// Copies of the file: the length kept of it (one more byte, a 3, where it is 73), a place, and the byte that is put there.
-fn copies() -> Vec<(usize, usize, u8)> {
-    let mut list = vec![(72, 0, 1), (73, 0, 1)];
-    // Every kind byte with another kind; the tide; N.
-    list.extend([0, 20, 37, 54, 71].into_iter().flat_map(|place| [0, 1, 2, 3, 0xff].map(|byte| (72, place, byte))));
-    list.extend([0, 3, 4, 0xff].map(|byte| (72, 17, byte)));
-    list.extend([(18, 0), (18, 2), (18, 0xff), (19, 1), (19, 0x0a), (19, 0xff)].map(|(place, byte)| (72, place, byte)));
-    // Cut, alone and behind another mistake.
-    list.extend([0, 1, 17, 18, 19, 20, 21, 36, 37, 38, 53, 54, 70, 71].map(|length| (length, 0, 1)));
-    list.extend([(19, 17, 4), (20, 17, 4), (71, 20, 3), (36, 20, 3), (73, 71, 2), (73, 17, 4), (1, 0, 2)]);
-    list
+/// A list at the front of the one that is lent.
+fn lent<T: Copy>(list: &[T], rest: T) -> Vec<T> {
+    [list, &[rest; BEHIND]].concat()
 }
 
 pub fn replay() -> String {
-    let model = example();
-    let whole = file(&model);
-    let mut text = String::from("// Answers for the crate model_file: a file as its bytes, what it holds as bit patterns.\n");
+    let mut text = String::from("// Model files as their bytes, and what they hold as bit patterns, by a writer of its own.\n");
     text += "// Written by `compare/run replay model_file FILE` (see compare/README.md), never by hand.\n";
     let words = |list: &[u64]| list.iter().map(|&bits| hexadecimal(bits)).collect::<Vec<_>>();
-    text += &array("the bytes of the file", "FILE", &whole.iter().map(u8::to_string).collect::<Vec<_>>());
-    text += &array("its gm, radius, tide and N", "HEAD", &words(&[model.gm, model.radius, model.tide as u64, model.nmax as u64]));
-    text += &array("its c", "C", &words(&model.c));
-    text += &array("its s", "S", &words(&model.s));
-    let cases: Vec<String> = copies()
-        .into_iter()
-        .flat_map(|(length, place, byte)| {
-            let mut bytes = [&whole[..], &[3]].concat();
-            bytes[place] = byte;
-            let refusal = format::read(&bytes[..length], &mut Model::default()).err().unwrap_or(0);
-            [length as u64, place as u64, byte as u64, refusal as u64].map(|x| x.to_string())
-        })
-        .collect();
-    let comment = "damaged copies: the length kept (73: a byte 3 behind the end), a place, the byte put there, the refusal (0: accepted)";
-    text + &array(comment, "COPIES", &cases)
+    for (i, model) in models().iter().enumerate() {
+        let file = lent(&file(model), BYTE);
+        text += &bytes(&format!("file {i}: its bytes, and two of the list behind them"), &format!("FILE_{i}"), &file);
+        let head = [model.gm, model.radius, model.tide as u64, model.nmax as u64];
+        text += &array("its gm, radius, tide and N", &format!("HEAD_{i}"), &words(&head));
+        text += &array("its c, and two of the list behind them", &format!("C_{i}"), &words(&lent(&model.c, WORD)));
+        text += &array("its s, and two of the list behind them", &format!("S_{i}"), &words(&lent(&model.s, WORD)));
+    }
+    text
 }

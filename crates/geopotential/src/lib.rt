@@ -3,15 +3,15 @@
 // Parameters stand in the order of the Rattle call; a list is a pointer and then its length; a small record goes field by field; an enum
 // is its number; a single number that is answered goes through a pointer at the end and is left alone on a refusal; the result is the
 // refusal's number, 0 where the call is done. Calls that can't refuse return their number.
-mod analyses;
+pub mod analyses;
 mod caps;
-mod fields;
-mod files;
-mod functionals;
+pub mod fields;
+pub mod files;
+pub mod functionals;
 mod lists;
 mod matrices;
-mod models;
+pub mod models;
 mod numbers;
-mod points;
+pub mod points;
 mod tables;
 mod version;
