@@ -118,30 +118,3 @@ pub fn bytes_line(name: &[u8], answers: &[u8], bytes: &[u8], at: usize, out: &mu
     let right = same_bytes(answers, bytes, at);
     write_line(name, right, answers.len(), out)
 }
-
-// Prints the line of numbers.
-pub fn show(name: &[u8], answers: &[f64], words: &[u64], at: usize)
-    requires { ⌜ at + length (now answers) ≤ length (now words) ⌝ ∗ ⌜ length (now name) ≤ 80 ⌝ }
-{
-    let mut out = [0u8; 125];
-    let end = line(name, answers, words, at, &mut out);
-    io::write_all(1, &out[..end]);
-}
-
-// Prints the line of words.
-pub fn show_words(name: &[u8], answers: &[u64], words: &[u64], at: usize)
-    requires { ⌜ at + length (now answers) ≤ length (now words) ⌝ ∗ ⌜ length (now name) ≤ 80 ⌝ }
-{
-    let mut out = [0u8; 125];
-    let end = words_line(name, answers, words, at, &mut out);
-    io::write_all(1, &out[..end]);
-}
-
-// Prints the line of bytes.
-pub fn show_bytes(name: &[u8], answers: &[u8], bytes: &[u8], at: usize)
-    requires { ⌜ at + length (now answers) ≤ length (now bytes) ⌝ ∗ ⌜ length (now name) ≤ 80 ⌝ }
-{
-    let mut out = [0u8; 125];
-    let end = bytes_line(name, answers, bytes, at, &mut out);
-    io::write_all(1, &out[..end]);
-}

@@ -155,5 +155,5 @@ pub fn print_line(name: &[u8], words: &[u64], due: &[u64])
     requires { ⌜ length (now name) ≤ 80 ⌝ ∗ ⌜ length (now due) ≤ length (now words) ⌝ }
 {
     let k = due.len();
-    replay::show_words(name, &words[..k], due, 0);
+    replay_print::show_words(name, &words[..k], due, 0);
 }

@@ -58,7 +58,7 @@ fn print_bytes(name: &[u8], bytes: &[u8], file: &[u8])
     requires { ⌜ length (now name) ≤ 80 ⌝ ∗ ⌜ length (now file) ≤ length (now bytes) ⌝ }
 {
     let k = file.len();
-    replay::show_bytes(name, &bytes[..k], file, 0);
+    replay_print::show_bytes(name, &bytes[..k], file, 0);
 }
 
 // The bytes that are written of a head and the first pairs of two lists.
@@ -85,7 +85,7 @@ fn print_read(
 )
     requires { ⌜ length (now c) ≤ 12 ⌝ ∗ ⌜ length (now s) ≤ 12 ⌝ }
 {
-    replay::show_words(b"head ", &words_of(h), head, 0);
+    replay_print::show_words(b"head ", &words_of(h), head, 0);
     replay_cases::print_line(b"c ", cread, c);
     replay_cases::print_line(b"s ", sread, s);
 }

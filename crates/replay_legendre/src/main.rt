@@ -5,7 +5,7 @@ mod answers;
 use legendre::Latitude;
 use refusal::Answer;
 use refusal::Number;
-use replay::show;
+use replay_print::show;
 ghost use mathlib.Core.Path.{_≡_};
 ghost use Prim.Native.Nat.{_+_, _≤_};
 ghost use lib.ListN.{length};

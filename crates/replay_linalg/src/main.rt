@@ -3,7 +3,7 @@
 mod solvers;
 
 use refusal::Answer;
-use replay::show;
+use replay_print::show;
 ghost use Prim.Native.Nat.{_+_, _<_, _≤_};
 ghost use lib.ListN.{length};
 

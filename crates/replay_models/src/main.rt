@@ -9,8 +9,8 @@ use coefficients::TideSystem;
 use functional::Functional;
 use refusal::Answer;
 use refusal::Number;
-use replay::show;
-use replay::show_words;
+use replay_print::show;
+use replay_print::show_words;
 ghost use Prim.Native.Nat.{_*_, _≤_};
 ghost use lib.ListN.{length};
 

@@ -1,7 +1,7 @@
 // Replays the oracle's answers for the crate number (answers.rt): a line for each group, how many of our answers have the oracle's bits.
 mod answers;
 
-use replay::show_words;
+use replay_print::show_words;
 ghost use Prim.Native.Nat.{_+_, _≤_};
 ghost use lib.ListN.{length};
 

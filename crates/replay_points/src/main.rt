@@ -11,8 +11,8 @@ use legendre::Latitude;
 use local::Partials;
 use local::Point;
 use refusal::Answer;
-use replay::show;
-use replay::show_words;
+use replay_print::show;
+use replay_print::show_words;
 ghost use Prim.Native.Nat.{_<_};
 
 fn head() -> Head {

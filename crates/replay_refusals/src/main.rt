@@ -125,69 +125,69 @@ fn print_tables() {
 }
 
 fn print_heads() {
-    replay::show_words(b"head of zeros ", &models::zeros_head(0), &cases::HEADS, 0);
-    replay::show_words(b"head of zeros ", &models::zeros_head(1), &cases::HEADS, 4);
-    replay::show_words(
+    replay_print::show_words(b"head of zeros ", &models::zeros_head(0), &cases::HEADS, 0);
+    replay_print::show_words(b"head of zeros ", &models::zeros_head(1), &cases::HEADS, 4);
+    replay_print::show_words(
         b"head of truncated ",
         &models::truncated_head(0, 0),
         &cases::HEADS,
         8,
     );
-    replay::show_words(
+    replay_print::show_words(
         b"head of truncated ",
         &models::truncated_head(1, 0),
         &cases::HEADS,
         12,
     );
-    replay::show_words(
+    replay_print::show_words(
         b"head of truncated ",
         &models::truncated_head(2, 0),
         &cases::HEADS,
         16,
     );
-    replay::show_words(
+    replay_print::show_words(
         b"head of truncated ",
         &models::truncated_head(3, 0),
         &cases::HEADS,
         20,
     );
-    replay::show_words(
+    replay_print::show_words(
         b"head of truncated ",
         &models::truncated_head(0, 1),
         &cases::HEADS,
         24,
     );
-    replay::show_words(
+    replay_print::show_words(
         b"head of truncated ",
         &models::truncated_head(1, 2),
         &cases::HEADS,
         28,
     );
-    replay::show_words(
+    replay_print::show_words(
         b"head of truncated ",
         &models::truncated_head(2, 2701),
         &cases::HEADS,
         32,
     );
-    replay::show_words(
+    replay_print::show_words(
         b"head of rescaled ",
         &models::rescaled_head(0),
         &cases::HEADS,
         36,
     );
-    replay::show_words(
+    replay_print::show_words(
         b"head of rescaled ",
         &models::rescaled_head(1),
         &cases::HEADS,
         40,
     );
-    replay::show_words(
+    replay_print::show_words(
         b"head of rescaled ",
         &models::rescaled_head(2),
         &cases::HEADS,
         44,
     );
-    replay::show_words(
+    replay_print::show_words(
         b"head of rescaled ",
         &models::rescaled_head(3),
         &cases::HEADS,

@@ -110,13 +110,13 @@ fn print_heads() {
     let four = [0.5; 4];
     let eight = [0.5; 8];
     let sixteen = [0.5; 16];
-    replay::show_words(
+    replay_print::show_words(
         b"head of analysis ",
         &head_of(0, &two, &one, &two, &four),
         &cases::HEADS,
         0,
     );
-    replay::show_words(
+    replay_print::show_words(
         b"head of analysis ",
         &head_of(1, &eight, &two, &four, &sixteen),
         &cases::HEADS,
