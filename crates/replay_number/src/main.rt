@@ -112,7 +112,7 @@ fn signs() {
     show_words(b"patterns ", &patterns, &answers::PATTERNS_ANSWERS, 0);
 }
 
-fn rankings() {
+fn short_rankings() {
     let mut of_2 = [0; 1];
     ranking(
         b"ranking of 2 ",
@@ -134,6 +134,9 @@ fn rankings() {
         &answers::RANK_2_ORDER,
         &mut of_5,
     );
+}
+
+fn long_rankings() {
     let mut of_6 = [0; 5];
     ranking(
         b"ranking of 6 ",
@@ -160,5 +163,6 @@ fn rankings() {
 fn main() {
     roots();
     signs();
-    rankings();
+    short_rankings();
+    long_rankings();
 }
