@@ -11,13 +11,8 @@ use crate::refusal::{SPACE, TIDE, pairs};
 const WIDTH: usize = 12;
 
 /// The calls that take a functional. A single number that is answered counts as an output of one place.
-const FACTOR: Call = Call {
-    name: "factor",
-    limits: &[2700],
-    small: &[&[1]],
-    functionals: &[0],
-    lists: |n| vec![(Love, n[0] as u128 + 1), (Output, 1)],
-};
+const FACTOR: Call =
+    Call { name: "factor", limits: &[2700], small: &[&[1]], functionals: &[0], lists: |n| vec![(Love, n[0] as u128 + 1), (Output, 1)] };
 
 const DEGREE_AMPLITUDES: Call = Call {
     name: "degree_amplitudes",

@@ -55,7 +55,11 @@ fn reader() -> String {
         rows.push(copy.into_iter().chain(lengths).map(|x| x as u64).collect::<Vec<u64>>());
         dues.push([due as u64, written]);
         // A head that passes, whatever stands behind it: a copy that is cut behind the head is short there, and no other mistake is left.
-        let head = if copy[0] < 20 { file.err().unwrap_or(0) } else { read(&bytes[..20], &mut Model::default()).err().filter(|&e| e != SHORT).unwrap_or(0) };
+        let head = if copy[0] < 20 {
+            file.err().unwrap_or(0)
+        } else {
+            read(&bytes[..20], &mut Model::default()).err().filter(|&e| e != SHORT).unwrap_or(0)
+        };
         heads.push([head as u64, file.err().unwrap_or(0) as u64]);
     }
     let flat: Vec<String> = heads.iter().flatten().map(u64::to_string).collect();

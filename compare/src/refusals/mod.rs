@@ -104,7 +104,8 @@ impl Call {
         // The degree that the Love numbers are for; what of it is too large is among the sizes.
         let degree = love.map_or(0, |(_, stated)| stated.saturating_sub(1).min(2700) as usize);
         let (inputs, outputs) = (of(&[Input]), of(&[Output, Work]));
-        Checks { degree, sizes: &sizes, inputs: &inputs, love: love.map(|(length, _)| length), outputs: &outputs, ..Checks::default() }.due()
+        Checks { degree, sizes: &sizes, inputs: &inputs, love: love.map(|(length, _)| length), outputs: &outputs, ..Checks::default() }
+            .due()
     }
 
     /// Every number of a functional, and numbers that are none's: alone, with lists that are too short, and with a size that is too large.

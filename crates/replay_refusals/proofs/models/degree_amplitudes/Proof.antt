@@ -21,7 +21,7 @@ slice-aggregate-degree-amplitudes-4 c = sym (length-take-le _ _ (omega arith))
 pub degree-amplitudes-spec : {M : Type 1} → statement M
 degree-amplitudes-spec =
     tie.close
-    (tie.spec (λ c κs. search needs) (λ c κs. search needs) (λ c κs. search needs) (λ c κs. search needs) (λ c κs. search needs) (λ c κs. search needs)
+    (tie.spec (λ c κs. search needs) (λ c κs. search needs) (λ c κs. search needs) (λ c κs. search needs) (λ c κs. search needs)
     (λ c κs. search needs) (λ c κs. search needs) slice-aggregate-degree-amplitudes slice-aggregate-degree-amplitudes-2
     slice-aggregate-degree-amplitudes-3 (λ c. search needs) slice-aggregate-degree-amplitudes-4 (λ c κs. search needs) (λ c κs. search needs)
     (λ c. search needs) (λ c. search needs))

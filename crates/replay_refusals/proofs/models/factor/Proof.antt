@@ -12,5 +12,5 @@ slice-aggregate-factor c = sym (length-take-le _ _ (omega arith))
 pub factor-spec : {M : Type 1} → statement M
 factor-spec =
     tie.close
-    (tie.spec (λ c κs. search needs) (λ c κs. search needs) (λ c κs. search needs) (λ c κs. search needs) slice-aggregate-factor (λ c κs. search needs)
+    (tie.spec (λ c κs. search needs) (λ c κs. search needs) (λ c κs. search needs) slice-aggregate-factor (λ c κs. search needs)
     (λ c κs. search needs) (λ c. search needs))
