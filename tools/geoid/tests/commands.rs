@@ -64,7 +64,7 @@ fn a_model_goes_to_text_and_back() {
     assert_eq!(geoid(&["convert", &first, &text]).unwrap(), format!("{text}: degree 20, 231 pairs\n"));
     geoid(&["convert", &text, &second]).unwrap();
     assert_eq!(fs::read(&first).unwrap(), fs::read(&second).unwrap());
-    assert_eq!(geoid(&["info", &first]), geoid(&["info", &text]));
+    assert_eq!(geoid(&["info", &text]).unwrap(), format!("model        text\n{}", geoid(&["info", &first]).unwrap()));
 }
 
 #[test]
@@ -196,7 +196,8 @@ fn absent_pairs_are_noted() {
     let folder = Folder::new();
     let [text, out] = ["x.gfc", "x.model"].map(|name| folder.file(name));
     fs::write(&text, "earth_gravity_constant 1\nradius 1\nmax_degree 2\nend_of_head\ngfc 0 0 1 0\n").unwrap();
-    let done = Command::new(env!("CARGO_BIN_EXE_geoid")).args(["convert", &text, &out]).output().unwrap();
+    assert!(geoid(&["convert", &text, &out]).unwrap_err().contains("the pair (1, 0) is absent (and 4 more)"));
+    let done = Command::new(env!("CARGO_BIN_EXE_geoid")).args(["convert", &text, &out, "--absent-as-zero"]).output().unwrap();
     assert!(done.status.success());
     assert_eq!(String::from_utf8(done.stderr).unwrap(), format!("geoid: note: {text}: 5 of 6 pairs are absent and taken as 0\n"));
 }

@@ -4,10 +4,10 @@ use std::path::Path;
 
 use geopotential::{Coefficients, MAX_DEGREE};
 
-use super::{Command, FUNCTIONAL, LOVE};
+use super::{ABSENT_AS_ZERO, Command, EPOCH, FUNCTIONAL, LOVE};
 use crate::arguments::{Arguments, Opt};
 use crate::error::Error;
-use crate::field_file::{has_extension, load};
+use crate::field_file::{Choices, has_extension, load};
 use crate::formats;
 use crate::grid::{GLOBE, Nodes, Region, Surface, evaluate};
 use crate::map::{self, Map};
@@ -32,6 +32,8 @@ pub const COMMAND: Command = Command {
         Opt { name: "--degree", value: "N", help: "cut the field to degree N" },
         LOVE,
         Opt { name: "--title", value: "TEXT", help: "a map's title; default the functional's name" },
+        ABSENT_AS_ZERO,
+        EPOCH,
     ],
     details: "Rows run from north to south, nodes lie on the region's edges. Files have the library's SI numbers with all\n\
               their digits; a map shows mGal and E. The normal field (even zonals and degree 0) is rescaled to the field's\n\
@@ -56,7 +58,7 @@ fn run(arguments: &Arguments) -> Result<String, Error> {
     let cut = arguments.count("--degree", MAX_DEGREE)?;
     let surface = surface(arguments)?;
     let love = quantity.love(arguments.path("--love"))?;
-    let whole = load(arguments.operand(0))?;
+    let whole = load(arguments.operand(0), &Choices::of(arguments)?)?;
     if !arguments.has("--normal") {
         note_difference(arguments.operand(0), &whole)?;
     }

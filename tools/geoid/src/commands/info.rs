@@ -2,10 +2,10 @@
 
 use geopotential::{Coefficients, TideSystem};
 
-use super::{Command, FUNCTIONAL, LOVE};
+use super::{ABSENT_AS_ZERO, Command, EPOCH, FUNCTIONAL, LOVE};
 use crate::arguments::{Arguments, Opt};
 use crate::error::Error;
-use crate::field_file::{load, pairs};
+use crate::field_file::{Choices, FieldFile, pairs, read};
 use crate::plot;
 use crate::quantity::Quantity;
 
@@ -18,7 +18,13 @@ pub const COMMAND: Command = Command {
     summary: "a field's head, its degree amplitudes and a plot of them",
     usage: "FILE [OPTIONS]",
     operands: &["FILE"],
-    options: &[FUNCTIONAL, LOVE, Opt { name: "--all", value: "", help: "every degree in the table, however many there are" }],
+    options: &[
+        FUNCTIONAL,
+        LOVE,
+        Opt { name: "--all", value: "", help: "every degree in the table, however many there are" },
+        ABSENT_AS_ZERO,
+        EPOCH,
+    ],
     details: "Amplitudes are those on the field's own reference sphere; 'to here' is the root of the sum of squares\n\
               from degree 2. Gravity is shown in mGal, gradients in E.\n",
     run,
@@ -27,11 +33,20 @@ pub const COMMAND: Command = Command {
 fn run(arguments: &Arguments) -> Result<String, Error> {
     let quantity = Quantity::named(arguments.text("--functional")?)?;
     let love = quantity.love(arguments.path("--love"))?;
-    let field = load(arguments.operand(0))?;
+    let file = read(arguments.operand(0), &Choices::of(arguments)?)?;
+    let field = &file.field;
     let mut amplitudes = field.try_degree_amplitudes(&(quantity.functional)(&love))?;
     amplitudes.iter_mut().for_each(|amplitude| *amplitude *= quantity.per_si);
     let shown = degrees(field.max_degree(), arguments.has("--all"));
-    Ok(head(&field) + &table(&amplitudes, &shown, quantity) + "\n" + &plot::bars(&amplitudes, quantity.unit))
+    Ok(sayings(&file) + &head(field) + &table(&amplitudes, &shown, quantity) + "\n" + &plot::bars(&amplitudes, quantity.unit))
+}
+
+/// What the file itself says of the field, and what was taken for granted.
+fn sayings(file: &FieldFile) -> String {
+    let name = file.name.iter().map(|name| ("model", name));
+    let time = file.time.iter().map(|time| ("time", time));
+    let notes = file.notes.iter().map(|text| ("note", text));
+    name.chain(time).chain(notes).map(|(label, text)| format!("{label:<13}{text}\n")).collect()
 }
 
 fn head(field: &Coefficients) -> String {

@@ -80,7 +80,7 @@ fn overview() -> String {
     for command in COMMANDS {
         text.push_str(&format!("  {:<9}{}\n", command.name, command.summary));
     }
-    text + "\nA field is a model file or ICGEM text (.gfc); either is known by its first byte.\n"
+    text + "\nA field is a model file, ICGEM text (.gfc) or a monthly text of GRACE (GSM-2, release 06), known by its content.\n"
 }
 
 impl Command {
@@ -115,3 +115,8 @@ const FUNCTIONAL: Opt = Opt {
 
 /// The option that water heights need.
 const LOVE: Opt = Opt { name: "--love", value: "FILE", help: "load Love numbers for water-height: lines 'n k', n from 0" };
+
+/// The options of every command that reads a field.
+const ABSENT_AS_ZERO: Opt = Opt { name: "--absent-as-zero", value: "", help: "pairs that a text leaves out are 0, not a mistake" };
+const EPOCH: Opt =
+    Opt { name: "--epoch", value: "DATE", help: "when ICGEM coefficients that change with time are taken:\nYYYY-MM-DD or a decimal year" };
