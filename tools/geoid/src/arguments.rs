@@ -13,6 +13,20 @@ pub struct Opt {
     pub help: &'static str,
 }
 
+/// The word before a `=` and the value behind it, which need not be text (a file's name).
+#[allow(unsafe_code)]
+fn split_at_sign(word: &OsStr) -> (&OsStr, Option<OsString>) {
+    let bytes = word.as_encoded_bytes();
+    match bytes.iter().position(|&byte| byte == b'=') {
+        None => (word, None),
+        // SAFETY: the encoded bytes are cut just before and just behind an ASCII character.
+        Some(place) => unsafe {
+            let value = OsStr::from_encoded_bytes_unchecked(&bytes[place + 1..]);
+            (OsStr::from_encoded_bytes_unchecked(&bytes[..place]), Some(value.to_os_string()))
+        },
+    }
+}
+
 /// What a command line gives: its operands in order, and each option's value.
 #[derive(Debug, Default)]
 pub struct Arguments {
@@ -39,11 +53,8 @@ impl Arguments {
     }
 
     fn option(&mut self, word: &OsStr, words: &mut impl Iterator<Item = OsString>, known: &[Opt]) -> Result<(), Error> {
-        let shown = word.to_string_lossy();
-        let (name, joined) = match shown.split_once('=') {
-            Some((name, value)) => (name, Some(OsString::from(value))),
-            None => (&*shown, None),
-        };
+        let (front, joined) = split_at_sign(word);
+        let name = &*front.to_string_lossy();
         let opt = known.iter().find(|opt| opt.name == name).ok_or_else(|| Error::usage(format!("unknown option '{name}'")))?;
         let value = match (opt.value, joined) {
             ("", None) => OsString::new(),

@@ -8,6 +8,7 @@ use super::{ABSENT_AS_ZERO, Command, EPOCH, FUNCTIONAL, LOVE};
 use crate::arguments::{Arguments, Opt};
 use crate::error::Error;
 use crate::field_file::{Choices, has_extension, load};
+use crate::finite::strange;
 use crate::formats;
 use crate::grid::{GLOBE, Nodes, Region, Surface, evaluate};
 use crate::map::{self, Map};
@@ -65,6 +66,7 @@ fn run(arguments: &Arguments) -> Result<String, Error> {
     let surface = surface.unwrap_or(Surface::Sphere(whole.radius));
     let field = prepared(&whole, cut, normal)?;
     let values = evaluate(&field, &(quantity.functional)(&love), &nodes, surface)?;
+    let strange = strange(&values);
     let unit = match format {
         Format::Csv => write_with(out, |out| formats::csv(&nodes, &values, out)).map(|()| quantity.si_unit),
         Format::Esri => write_with(out, |out| formats::esri(&nodes, &values, out)).map(|()| quantity.si_unit),
@@ -74,7 +76,8 @@ fn run(arguments: &Arguments) -> Result<String, Error> {
             write_whole(out, &picture(&nodes, values, quantity, title, &lines)?).map(|()| quantity.unit)
         }
     }?;
-    Ok(format!("{}: {} x {} values in {unit}\n", out.display(), nodes.latitudes.len(), nodes.longitudes.len()))
+    let strange = strange.map_or(String::new(), |text| format!("; {text}"));
+    Ok(format!("{}: {} x {} values in {unit}{strange}\n", out.display(), nodes.latitudes.len(), nodes.longitudes.len()))
 }
 
 fn format_of(path: &Path) -> Result<Format, Error> {

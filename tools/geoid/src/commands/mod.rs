@@ -13,6 +13,7 @@ use std::process::ExitCode;
 
 use crate::arguments::{Arguments, Opt};
 use crate::error::Error;
+use crate::part_file::catch_signals;
 
 /// A command: how it is called, what its help says, and what runs it. It answers the text for standard
 /// output.
@@ -31,6 +32,7 @@ const COMMANDS: [&Command; 6] = [&convert::COMMAND, &info::COMMAND, &grid::COMMA
 /// Run the words of a command line: the answer goes to standard output, an error's one line to
 /// standard error.
 pub fn main(words: Vec<OsString>) -> ExitCode {
+    catch_signals();
     let printed = run(words).and_then(|text| print(&text));
     match printed {
         Ok(()) => ExitCode::SUCCESS,
@@ -114,7 +116,11 @@ const FUNCTIONAL: Opt = Opt {
 };
 
 /// The option that water heights need.
-const LOVE: Opt = Opt { name: "--love", value: "FILE", help: "load Love numbers for water-height: lines 'n k', n from 0" };
+const LOVE: Opt = Opt {
+    name: "--love",
+    value: "FILE",
+    help: "load Love numbers for water-height: lines 'n k', n rising from 0;\nbetween the n of the file they are linear",
+};
 
 /// The options of every command that reads a field.
 const ABSENT_AS_ZERO: Opt = Opt { name: "--absent-as-zero", value: "", help: "pairs that a text leaves out are 0, not a mistake" };

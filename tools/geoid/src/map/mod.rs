@@ -44,7 +44,7 @@ pub fn draw(map: &Map) -> Result<Image, Error> {
         return Err(Error::failure("a map needs two rows and two columns at least; expected a larger region or a smaller step"));
     }
     let statistics = statistics::of(map.nodes, map.values);
-    let colours = Colours::of_range(statistics.least, statistics.largest, statistics.rms);
+    let colours = statistics.as_ref().map_or(Colours::of_range(0.0, 0.0, 0.0), |all| Colours::of_range(all.least, all.largest, all.rms));
     let (width, height) = field_size(map.nodes);
     let page = (width + 2 * SIDE).max(LEAST_WIDTH);
     let mut canvas = Canvas::new(page, height + TOP + BOTTOM, WHITE);
@@ -52,9 +52,12 @@ pub fn draw(map: &Map) -> Result<Image, Error> {
     let contours = raster::draw(&mut canvas, field, map, &colours).then(|| contour_note(&colours, map.unit));
     heading(&mut canvas, map, &contours.unwrap_or_default());
     frame::draw(&mut canvas, field, map.nodes.region);
-    bar::draw(&mut canvas, field, &colours, &Reach { unit: map.unit, least: statistics.least, largest: statistics.largest });
+    if let Some(all) = &statistics {
+        bar::draw(&mut canvas, field, &colours, &Reach { unit: map.unit, least: all.least, largest: all.largest });
+    }
+    let line = statistics.map_or(statistics::NOTHING.to_string(), |all| all.line(map.unit));
     let foot = field.top + field.height + BOTTOM - 36;
-    canvas.text((page / 2, foot), Align::Centre, &fitting(&statistics.line(map.unit), LABEL, page), LABEL, BLACK);
+    canvas.text((page / 2, foot), Align::Centre, &fitting(&line, LABEL, page), LABEL, BLACK);
     Ok(Image { width: canvas.width, height: canvas.height, palette: colours.palette(), pixels: canvas.pixels })
 }
 

@@ -64,9 +64,11 @@ fn neighbour(pixel: usize, pixels: usize, nodes: usize) -> (usize, f64) {
 /// The places where a multiple of the step lies between a pixel and the next one, right or below.
 fn contours(values: &[f64], width: usize, step: f64) -> Vec<usize> {
     let band = |place: usize| (values[place] / step).floor();
+    // Beside what is no number there is no contour.
+    let differ = |a: f64, b: f64| a.is_finite() && b.is_finite() && a != b;
     let crossed = |&place: &usize| {
-        let right = (place + 1) % width != 0 && band(place) != band(place + 1);
-        let below = place + width < values.len() && band(place) != band(place + width);
+        let right = (place + 1) % width != 0 && differ(band(place), band(place + 1));
+        let below = place + width < values.len() && differ(band(place), band(place + width));
         right || below
     };
     (0..values.len()).filter(crossed).collect()
