@@ -27,9 +27,17 @@ fn split_at_sign(word: &OsStr) -> (&OsStr, Option<OsString>) {
     }
 }
 
+/// A word as a shell takes it.
+fn quoted(word: &str) -> String {
+    let plain = |c: char| c.is_alphanumeric() || "-_./=+:,@%".contains(c);
+    if !word.is_empty() && word.chars().all(plain) { word.to_string() } else { format!("'{}'", word.replace('\'', "'\\''")) }
+}
+
 /// What a command line gives: its operands in order, and each option's value.
 #[derive(Debug, Default)]
 pub struct Arguments {
+    /// The words as a shell takes them.
+    pub line: String,
     operands: Vec<OsString>,
     options: BTreeMap<&'static str, OsString>,
 }
@@ -38,7 +46,8 @@ impl Arguments {
     /// Sort the words behind a command by the options it knows. An option's value is the next word,
     /// whatever it begins with (`--region -10/20/35/60`), or stands behind a `=`.
     pub fn parse(words: Vec<OsString>, known: &[Opt]) -> Result<Self, Error> {
-        let mut found = Arguments::default();
+        let line = words.iter().map(|word| quoted(&word.to_string_lossy())).collect::<Vec<_>>().join(" ");
+        let mut found = Arguments { line, ..Arguments::default() };
         let mut words = words.into_iter();
         while let Some(word) = words.next() {
             if word == "--" {

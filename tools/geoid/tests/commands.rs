@@ -32,7 +32,7 @@ fn wrong_words_are_named() {
         (&["info", "a", "--functional"], "option --functional needs a value: --functional NAME; see geoid info --help"),
         (&["grid", "a", "--step", "1", "--step=2"], "option --step is given twice; see geoid grid --help"),
         (&["grid", "a"], "--out PATH is missing; see geoid grid --help"),
-        (&["grid", "a", "--out", "x.tif"], "--out is 'x.tif'; expected a name that ends with .csv, .asc or .png"),
+        (&["grid", "a", "--out", "x.tif"], "--out is 'x.tif'; expected a name that ends with .csv, .asc, .nc or .png"),
         (&["grid", "a", "--out", "x.csv", "--step", "0"], "--step is '0'; expected degrees above 0, such as 0.5 or 1/12"),
         (&["grid", "a", "--out", "x.csv", "--normal", "bessel"], "--normal is 'bessel'; expected grs80, wgs84 or none"),
         (&["grid", "a", "--out", "x.csv", "--degree", "2701"], "--degree is 2701; expected a whole number from 0 to 2700"),
@@ -111,7 +111,7 @@ fn grids_as_text() {
     assert_eq!(geoid(&[&["grid", &model, "--out", &csv][..], &options].concat()).unwrap(), format!("{csv}: 3 x 4 values in m/s²\n"));
     geoid(&[&["grid", &model, "--out", &asc][..], &options].concat()).unwrap();
     let lines: Vec<String> = fs::read_to_string(&csv).unwrap().lines().map(String::from).collect();
-    assert_eq!((lines.len(), lines[0].as_str()), (13, "lat,lon,value"));
+    assert_eq!((lines.len(), lines[0].as_str()), (13, "lat,lon,z"));
     assert!(lines[1].starts_with("50,-10,") && lines[2].starts_with("50,0,") && lines[12].starts_with("30,20,"));
     let grid = fs::read_to_string(&asc).unwrap();
     let (head, rows) = grid.split_once("NODATA_value -9999\n").unwrap();

@@ -7,19 +7,21 @@ use geopotential::{Coefficients, MAX_DEGREE};
 use super::{ABSENT_AS_ZERO, Command, EPOCH, FUNCTIONAL, LOVE};
 use crate::arguments::{Arguments, Opt};
 use crate::error::Error;
-use crate::field_file::{Choices, has_extension, load};
+use crate::field_file::{Choices, has_extension, read};
 use crate::finite::strange;
 use crate::formats;
 use crate::grid::{GLOBE, Nodes, Region, Surface, evaluate};
 use crate::map::{self, Map};
+use crate::netcdf;
 use crate::normal::{GRS80, NormalGravity};
-use crate::output::{note, write_whole, write_with};
+use crate::output::{is_special, note, write_whole, write_with};
 use crate::png;
+use crate::provenance::Provenance;
 use crate::quantity::Quantity;
 
 pub const COMMAND: Command = Command {
     name: "grid",
-    summary: "values on a regular grid, as .csv, .asc (ESRI ASCII grid) or .png (a map)",
+    summary: "values on a regular grid, as .csv, .asc (ESRI ASCII grid), .nc (NetCDF-3) or .png (a map)",
     usage: "FILE --out PATH [OPTIONS]",
     operands: &["FILE"],
     options: &[
@@ -47,6 +49,7 @@ pub const COMMAND: Command = Command {
 enum Format {
     Csv,
     Esri,
+    NetCdf,
     Png,
 }
 
@@ -59,7 +62,9 @@ fn run(arguments: &Arguments) -> Result<String, Error> {
     let cut = arguments.count("--degree", MAX_DEGREE)?;
     let surface = surface(arguments)?;
     let love = quantity.love(arguments.path("--love"))?;
-    let whole = load(arguments.operand(0), &Choices::of(arguments)?)?;
+    let file = read(arguments.operand(0), &Choices::of(arguments)?)?;
+    file.tell(arguments.operand(0));
+    let whole = file.field;
     if !arguments.has("--normal") {
         note_difference(arguments.operand(0), &whole)?;
     }
@@ -67,25 +72,45 @@ fn run(arguments: &Arguments) -> Result<String, Error> {
     let field = prepared(&whole, cut, normal)?;
     let values = evaluate(&field, &(quantity.functional)(&love), &nodes, surface)?;
     let strange = strange(&values);
+    let title = arguments.text("--title")?.unwrap_or(quantity.title);
+    let lines = [source(arguments.operand(0), &field), taken(normal, surface)];
+    let about = Provenance {
+        quantity,
+        title: title.to_string(),
+        source: file.name.iter().map(|name| format!("model {name}, file ")).collect::<String>() + &lines[0],
+        taken: lines[1].clone(),
+        history: format!("geoid {}: geoid grid {}", env!("CARGO_PKG_VERSION"), arguments.line),
+        surface,
+        less_normal: normal.is_some(),
+    };
     let unit = match format {
         Format::Csv => write_with(out, |out| formats::csv(&nodes, &values, out)).map(|()| quantity.si_unit),
         Format::Esri => write_with(out, |out| formats::esri(&nodes, &values, out)).map(|()| quantity.si_unit),
-        Format::Png => {
-            let title = arguments.text("--title")?.unwrap_or(quantity.title);
-            let lines = [source(arguments.operand(0), &field), taken(normal, surface)];
-            write_whole(out, &picture(&nodes, values, quantity, title, &lines)?).map(|()| quantity.unit)
-        }
+        Format::NetCdf => write_with(out, |out| netcdf::write(&nodes, &values, &about, out)).map(|()| quantity.si_unit),
+        Format::Png => write_whole(out, &picture(&nodes, values, quantity, title, &lines)?).map(|()| quantity.unit),
     }?;
+    write_beside(out, format, &about)?;
     let strange = strange.map_or(String::new(), |text| format!("; {text}"));
     Ok(format!("{}: {} x {} values in {unit}{strange}\n", out.display(), nodes.latitudes.len(), nodes.longitudes.len()))
 }
 
+/// The files beside a grid of text, which has no place for its system and its history.
+fn write_beside(out: &Path, format: Format, about: &Provenance) -> Result<(), Error> {
+    let files = match format {
+        _ if is_special(out) => vec![],
+        Format::Csv => vec![formats::aux_file(out, about)],
+        Format::Esri => vec![formats::prj_file(out, about), formats::aux_file(out, about)],
+        Format::NetCdf | Format::Png => vec![],
+    };
+    files.iter().try_for_each(|(path, text)| write_whole(path, text.as_bytes()))
+}
+
 fn format_of(path: &Path) -> Result<Format, Error> {
-    let formats = [("csv", Format::Csv), ("asc", Format::Esri), ("png", Format::Png)];
+    let formats = [("csv", Format::Csv), ("asc", Format::Esri), ("nc", Format::NetCdf), ("png", Format::Png)];
     let found = formats.into_iter().find(|(extension, _)| has_extension(path, extension));
     found
         .map(|(_, format)| format)
-        .ok_or_else(|| Error::usage(format!("--out is '{}'; expected a name that ends with .csv, .asc or .png", path.display())))
+        .ok_or_else(|| Error::usage(format!("--out is '{}'; expected a name that ends with .csv, .asc, .nc or .png", path.display())))
 }
 
 fn nodes(arguments: &Arguments) -> Result<Nodes, Error> {
