@@ -58,7 +58,7 @@ pub fn esri_text(surface: &Surface) -> String {
 
 fn sphere(radius: f64) -> String {
     let shape = format!("SPHEROID[\"Sphere\",{radius:?},0.0]");
-    format!("GEOGCS[\"Geocentric latitudes on a sphere\",DATUM[\"D_Sphere\",{shape}],{MERIDIAN}]")
+    format!("GEOGCS[\"Geocentric latitudes on a sphere\",DATUM[\"D_Sphere_of_the_field\",{shape}],{MERIDIAN}]")
 }
 
 /// What the latitudes are measured from.

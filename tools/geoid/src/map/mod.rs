@@ -1,7 +1,8 @@
-//! A grid as a printed map: title, coloured field with contours and graticule, frame, colour bar.
+//! A grid as a printed map: title, coloured field with labelled contours and graticule, frame, colour bar.
 
 mod bar;
 mod frame;
+mod labels;
 mod raster;
 mod statistics;
 

@@ -2,6 +2,7 @@
 
 use super::Map;
 use super::frame::{graticule, place_of};
+use super::labels::{self, Pixels};
 use crate::canvas::{Area, Canvas};
 use crate::colours::{Colours, darker};
 
@@ -28,6 +29,9 @@ pub fn draw(canvas: &mut Canvas, area: Area, map: &Map, colours: &Colours) -> bo
         }
     }
     draw_graticule(canvas, area, map);
+    if apart {
+        labels::draw(canvas, area, &Pixels { values: &values, width: area.width, height: area.height }, colours);
+    }
     apart
 }
 
