@@ -178,3 +178,37 @@ fn described(about: &Provenance) -> Vec<Attribute> {
     attributes.push(("_FillValue", Value::Number(f64::NAN)));
     attributes
 }
+
+#[cfg(test)]
+mod tests {
+    use super::*;
+    use crate::grid::Region;
+    use crate::quantity::Quantity;
+
+    /// The head of a square grid of so many nodes a side.
+    fn head_of(nodes: usize) -> Vec<u8> {
+        let axis: Vec<f64> = (0..nodes).map(|k| k as f64).collect();
+        let region = Region { west: 0.0, east: 1.0, south: 0.0, north: 1.0 };
+        let about = Provenance {
+            quantity: Quantity::named(None).unwrap(),
+            title: "t".into(),
+            source: "s".into(),
+            taken: "c".into(),
+            history: "h".into(),
+            surface: Surface::Sphere(1.0),
+            less_normal: true,
+        };
+        head(&Nodes { region, step: 1.0, latitudes: axis.clone(), longitudes: axis }, &about)
+    }
+
+    #[test]
+    fn places_are_wide_where_they_must_be() {
+        let (small, large) = (head_of(3), head_of(1 << 14));
+        assert_eq!((&small[..4], &large[..4]), (&b"CDF\x01"[..], &b"CDF\x02"[..]));
+        // Four variables, whose places have four bytes more each.
+        assert_eq!(large.len(), small.len() + 16);
+        let last = |head: &[u8], bytes: usize| head[head.len() - bytes..].iter().fold(0u64, |place, &byte| place << 8 | u64::from(byte));
+        assert_eq!(last(&small, 4), small.len() as u64 + 4 + 2 * 3 * 8);
+        assert_eq!(last(&large, 8), large.len() as u64 + 4 + 2 * (1 << 14) * 8);
+    }
+}

@@ -5,6 +5,11 @@ mod support;
 use std::fs;
 use std::process::Command;
 
+use geoid::date::Date;
+use geoid::field_file::Choices;
+use geoid::random::SplitMix64;
+use geoid::text::decoded;
+use geoid::{foreign, gfc, gsm};
 use geopotential::{Coefficients, TideSystem, model_file};
 use support::{Folder, geoid};
 
@@ -375,4 +380,33 @@ fn files_of_other_kinds_are_named() {
         assert_eq!(convert(&folder, bytes, &[]).unwrap_err(), format!("in.txt: looks like {kind}; {expected}"));
     }
     assert!(!folder.path().join("out.model").exists());
+}
+
+#[test]
+fn damaged_texts_are_read_or_refused() {
+    let mut random = SplitMix64::new(7);
+    let choices = [Choices::default(), Choices { absent_as_zero: true, epoch: Date::parse("2011.3").ok() }];
+    for whole in [eigen(), goco(MOVING), month()] {
+        for round in 0..600 {
+            let mut bytes = whole.clone().into_bytes();
+            for _ in 0..=random.word() % 4 {
+                let place = random.word() as usize % bytes.len();
+                match random.word() % 4 {
+                    0 => bytes[place] = random.word() as u8,
+                    1 => bytes.truncate(place.max(1)),
+                    2 => drop(bytes.drain(place..(place + 30).min(bytes.len()))),
+                    _ => bytes.insert(place, b" \n.-9eD\xe9"[random.word() as usize % 8]),
+                }
+                if bytes.is_empty() {
+                    bytes.push(b' ');
+                }
+            }
+            let text = decoded(&bytes);
+            for reading in [gfc::read(&text, &choices[round % 2]), gsm::read(&text, &choices[round % 2])] {
+                let lists = reading.map(|file| file.field.degree_variances());
+                assert!(lists.is_err() || lists.is_ok_and(|list| !list.is_empty()));
+            }
+            let _ = (foreign::by_signature(&bytes), foreign::by_text(&text));
+        }
+    }
 }

@@ -257,6 +257,15 @@ fn strange_values_can_be_drawn() {
 }
 
 #[test]
+fn a_map_of_nothing_has_no_colours() {
+    let nothing = map_of(GLOBE, 30.0, |_, _| f64::NAN).unwrap();
+    // White, black and the grey of missing values; no colour bar, whose numbers would be of nothing.
+    assert!(nothing.pixels.iter().all(|&pixel| pixel <= 2));
+    let something = map_of(GLOBE, 30.0, |lat, _| if lat > 80.0 { 0.0 } else { f64::NAN }).unwrap();
+    assert!(something.pixels.iter().any(|&pixel| pixel > 2));
+}
+
+#[test]
 fn a_line_is_no_map() {
     let error = map_of(Region { south: 0.0, north: 0.0, ..GLOBE }, 1.0, |_, lon| lon).err().unwrap();
     assert!(error.to_string().starts_with("a map needs two rows and two columns"));

@@ -45,7 +45,7 @@ pub fn read(text: &str) -> Result<(Head, usize), Fault> {
         max_degree: required(&values, end, "max_degree", degree)?,
         tide_system: tide_system(&values)?,
         sigmas: errors.map(|place| ERRORS[place].1),
-        intervals: word(&values, "format", &["icgem1.0", "icgem2.0"])? == Some(1),
+        intervals: intervals(&values)?,
     };
     Ok((head, end))
 }
@@ -99,6 +99,14 @@ fn word(values: &Values, key: &str, expected: &[&str]) -> Result<Option<usize>, 
     match expected.iter().position(|word| word.eq_ignore_ascii_case(value)) {
         Some(place) => Ok(Some(place)),
         None => Err(Fault::at(line, format!("{key} is '{value}'; expected {}", expected.join(" or ")))),
+    }
+}
+
+/// Whether the format is version 2.0; a line that begins with `format` and names none is free text.
+fn intervals(values: &Values) -> Result<bool, Fault> {
+    match values.get("format") {
+        Some((_, value)) if begins(value, "icgem") => Ok(word(values, "format", &["icgem1.0", "icgem2.0"])? == Some(1)),
+        _ => Ok(false),
     }
 }
 

@@ -78,29 +78,30 @@ fn is_dark([red, green, blue]: [u8; 3]) -> bool {
 
 /// In each part of the map the label nearest to its middle, if there is one.
 fn labels(pixels: &Pixels, step: f64) -> Vec<Label> {
+    let offsets = offsets();
     let mut found: Vec<Label> = Vec::new();
-    for top in (0..pixels.height).step_by(PART_HEIGHT) {
-        for left in (0..pixels.width).step_by(PART_WIDTH) {
-            let part = Area { left, top, width: PART_WIDTH.min(pixels.width - left), height: PART_HEIGHT.min(pixels.height - top) };
-            let label = candidates(part).into_iter().find_map(|(x, y)| label(pixels, x, y, step, &found));
+    for y in (PART_HEIGHT / 2..pixels.height + PART_HEIGHT / 2).step_by(PART_HEIGHT) {
+        for x in (PART_WIDTH / 2..pixels.width + PART_WIDTH / 2).step_by(PART_WIDTH) {
+            let places = offsets.iter().filter_map(|&(dx, dy)| Some((x.checked_add_signed(dx)?, y.checked_add_signed(dy)?)));
+            let label = places.filter_map(|place| label(pixels, place, step, &found)).next();
             found.extend(label);
         }
     }
     found
 }
 
-/// Some pixels of a part, those nearest to its middle first.
-fn candidates(part: Area) -> Vec<(usize, usize)> {
-    let (middle_x, middle_y) = (part.left + part.width / 2, part.top + part.height / 2);
-    let columns = (part.left..part.left + part.width).step_by(STRIDE);
-    let mut all: Vec<(usize, usize)> = columns.flat_map(|x| (part.top..part.top + part.height).map(move |y| (x, y))).collect();
-    all.sort_by_key(|&(x, y)| x.abs_diff(middle_x).pow(2) + y.abs_diff(middle_y).pow(2));
+/// Some places about the middle of a part, the nearest first.
+fn offsets() -> Vec<(isize, isize)> {
+    let (width, height) = (PART_WIDTH as isize / 2, PART_HEIGHT as isize / 2);
+    let columns = (-width..width).step_by(STRIDE);
+    let mut all: Vec<(isize, isize)> = columns.flat_map(|dx| (-height..height).map(move |dy| (dx, dy))).collect();
+    all.sort_by_key(|&(dx, dy)| dx * dx + dy * dy);
     all
 }
 
 /// The label at a pixel, if a contour lies there with room for one.
-fn label(pixels: &Pixels, x: usize, y: usize, step: f64, others: &[Label]) -> Option<Label> {
-    if y + 1 >= pixels.height {
+fn label(pixels: &Pixels, (x, y): (usize, usize), step: f64, others: &[Label]) -> Option<Label> {
+    if x >= pixels.width || y + 1 >= pixels.height {
         return None;
     }
     let level = pixels.level(x, y, step)?;
