@@ -53,7 +53,7 @@ pub struct FieldFile {
 pub fn read(path: &Path, choices: &Choices) -> Result<FieldFile, Error> {
     let bytes = read_whole(path)?;
     match bytes.first() {
-        None => Err(Error::in_file(path, "the file is empty; expected a model file or ICGEM text")),
+        None => Err(Error::in_file(path, format!("the file is empty; {}", foreign::EXPECTED))),
         Some(&MODEL_FILE) => {
             let field = model_file::read(&bytes).map_err(|refusal| Error::in_file(path, refusal))?;
             Ok(FieldFile { field, name: None, time: None, notes: choices.unused_epoch().into_iter().collect() })

@@ -149,6 +149,45 @@ fn a_field_is_that_of_its_epoch() {
 }
 
 #[test]
+fn an_epoch_goes_wherever_a_field_goes() {
+    let folder = Folder::new();
+    let [text, model, kernel, csv] = ["moving.gfc", "still.model", "kernel.gfc", "out.csv"].map(|name| folder.file(name));
+    fs::write(&text, goco(MOVING)).unwrap();
+    fs::write(&kernel, "gravity_constant 1\nradius 1\nmax_degree 0\nend_of_head\ngfc 0 0 1 0\n").unwrap();
+    geoid(&["convert", &text, &model, "--epoch", "2012-06-30"]).unwrap();
+    let info = geoid(&["info", &text, "--epoch", "2012-06-30"]).unwrap();
+    assert!(info.starts_with("model        GOCO-TEST\ntime         2012-06-30 (the 2 pairs that change with time)\nGM "), "{info}");
+    assert_eq!(geoid(&["average", &text, &kernel, "--epoch", "2012-06-30"]), geoid(&["average", &model, &kernel]));
+    let grid = |field: &str, options: &[&str]| {
+        geoid(&[&["grid", field, "--out", &csv, "--step", "45"][..], options].concat()).unwrap();
+        fs::read(&csv).unwrap()
+    };
+    assert_eq!(grid(&text, &["--epoch", "2012-06-30"]), grid(&model, &[]));
+    for command in [&["info", &text][..], &["average", &text, &kernel], &["grid", &text, "--out", &csv]] {
+        assert!(geoid(command).unwrap_err().ends_with("expected --epoch DATE"));
+    }
+}
+
+#[test]
+fn love_numbers_with_gaps_are_noted() {
+    let folder = Folder::new();
+    let [month_file, kernel, love] = ["month", "kernel.gfc", "love.txt"].map(|name| folder.file(name));
+    fs::write(&month_file, month()).unwrap();
+    fs::write(&kernel, "gravity_constant 1\nradius 1\nmax_degree 2\nend_of_head\ngfc 0 0 1 0\ngfc 2 0 1 0\n").unwrap();
+    let average = |numbers: &str| {
+        fs::write(&love, numbers).unwrap();
+        let words = ["average", &month_file, &kernel, "--absent-as-zero", "--functional", "water-height", "--love", &love];
+        let done = Command::new(env!("CARGO_BIN_EXE_geoid")).args(words).output().unwrap();
+        (String::from_utf8(done.stdout).unwrap(), String::from_utf8(done.stderr).unwrap())
+    };
+    let (given, quiet) = average("0 0.0\n1 0.027\n2 -0.25\n3 -0.1875\n4 -0.125\n");
+    let (between, noted) = average("0 0.0D0\n1 2.7d-2\n2 -0.25\n4 -0.125\n");
+    assert_eq!(given, between);
+    let note = format!("geoid: note: {love}: 1 degrees are not given (the first is 3); linear between their neighbours\n");
+    assert_eq!((quiet.contains("linear"), noted.contains(&note)), (false, true), "{noted}");
+}
+
+#[test]
 fn intervals_of_version_2() {
     let folder = Folder::new();
     let lines = "\
@@ -353,7 +392,7 @@ fn a_change_of_months_has_no_degree_zero_of_its_own() {
 #[test]
 fn files_of_other_kinds_are_named() {
     let folder = Folder::new();
-    let cases: [(&[u8], &str); 14] = [
+    let cases: [(&[u8], &str); 21] = [
         (b"\x1f\x8b\x08\x00 packed", "compressed by gzip (.gz): unpack it first"),
         (b"\x1f\x9d\x90 packed", "compressed by compress (.Z): unpack it first"),
         (b"PK\x03\x04 packed", "a zip archive: unpack it first"),
@@ -374,6 +413,13 @@ fn files_of_other_kinds_are_named() {
         (b"ncols 4\nnrows 3\n", "an ESRI ASCII grid, values and no coefficients"),
         (b"\xff\xfep\0r\0o\0", "UTF-16 text: save it as UTF-8"),
         (b"\x89PNG\r\n", "a PNG picture"),
+        (b"BZh91AY", "compressed by bzip2: unpack it first"),
+        (b"\xfd7zXZ\0", "compressed by xz: unpack it first"),
+        (b"CDF\x02\0\0\0\0", "NetCDF-3, a grid and no coefficients"),
+        (b"%PDF-1.7", "a PDF document"),
+        (b"\xfe\xff\0p\0r", "UTF-16 text: save it as UTF-8"),
+        (b"<?xml version='1.0'?><model/>", "XML"),
+        (b"lat,lon,z\n50,-10,36.9\n", "a grid of values (.csv), no coefficients"),
     ];
     for (bytes, kind) in cases {
         let expected = "expected a model file, ICGEM text (.gfc) or a monthly GRACE text (GSM-2, release 06)";

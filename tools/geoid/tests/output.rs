@@ -81,7 +81,7 @@ fn parts(folder: &Folder) -> usize {
     names.filter(|name| name.to_string_lossy().ends_with(".part")).count()
 }
 
-/// Whether a signal is ignored here, and so by the programs that are started here (a job in the background ignores 2).
+/// Whether a signal is ignored here, and so by the programs that are started here (a job in the background may ignore 1 and 2).
 fn is_ignored(number: u32) -> bool {
     let status = fs::read_to_string("/proc/self/status").unwrap_or_default();
     let mask = status.lines().find_map(|line| line.strip_prefix("SigIgn:")).and_then(|mask| u64::from_str_radix(mask.trim(), 16).ok());
@@ -94,7 +94,7 @@ fn a_signal_leaves_nothing_behind() {
     let [model, csv] = ["m.model", "g.csv"].map(|name| folder.file(name));
     geoid(&["sample", &model, "--degree", "2"]).unwrap();
     fs::write(&csv, "older").unwrap();
-    for (name, number) in [("TERM", 15), ("INT", 2)].into_iter().filter(|&(_, number)| !is_ignored(number)) {
+    for (name, number) in [("TERM", 15), ("INT", 2), ("HUP", 1)].into_iter().filter(|&(_, number)| !is_ignored(number)) {
         let words = ["grid", &model, "--out", &csv, "--step", "1/8"];
         let mut run = Command::new(env!("CARGO_BIN_EXE_geoid")).args(words).stderr(Stdio::null()).spawn().unwrap();
         let start = Instant::now();

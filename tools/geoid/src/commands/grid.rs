@@ -39,8 +39,10 @@ pub const COMMAND: Command = Command {
         EPOCH,
     ],
     details: "Rows run from north to south, nodes lie on the region's edges. Files have the library's SI numbers with all\n\
-              their digits; a map shows mGal and E. The normal field (even zonals and degree 0) is rescaled to the field's\n\
-              GM and radius before it is taken off, so degree 0 keeps 1 - GM0/GM. Water heights ignore the radius.\n",
+              their digits; a map shows mGal and E. An .nc file has CF names and its history; beside .csv and .asc stand\n\
+              files with the coordinate system and the history (.aux.xml, .prj). Values that are not finite are counted.\n\
+              The normal field (even zonals and degree 0) is rescaled to the field's GM and radius before it is taken off,\n\
+              so degree 0 keeps 1 - GM0/GM. Water heights ignore the radius.\n",
     run,
 };
 
@@ -72,26 +74,30 @@ fn run(arguments: &Arguments) -> Result<String, Error> {
     let field = prepared(&whole, cut, normal)?;
     let values = evaluate(&field, &(quantity.functional)(&love), &nodes, surface)?;
     let strange = strange(&values);
-    let title = arguments.text("--title")?.unwrap_or(quantity.title);
-    let lines = [source(arguments.operand(0), &field), taken(normal, surface)];
     let about = Provenance {
         quantity,
-        title: title.to_string(),
-        source: file.name.iter().map(|name| format!("model {name}, file ")).collect::<String>() + &lines[0],
-        taken: lines[1].clone(),
+        title: arguments.text("--title")?.unwrap_or(quantity.title).to_string(),
+        source: file.name.iter().map(|name| format!("model {name}, file ")).collect::<String>() + &source(arguments.operand(0), &field),
+        taken: taken(normal, surface),
         history: format!("geoid {}: geoid grid {}", env!("CARGO_PKG_VERSION"), arguments.line),
         surface,
         less_normal: normal.is_some(),
     };
-    let unit = match format {
-        Format::Csv => write_with(out, |out| formats::csv(&nodes, &values, out)).map(|()| quantity.si_unit),
-        Format::Esri => write_with(out, |out| formats::esri(&nodes, &values, out)).map(|()| quantity.si_unit),
-        Format::NetCdf => write_with(out, |out| netcdf::write(&nodes, &values, &about, out)).map(|()| quantity.si_unit),
-        Format::Png => write_whole(out, &picture(&nodes, values, quantity, title, &lines)?).map(|()| quantity.unit),
-    }?;
-    write_beside(out, format, &about)?;
+    let unit = write_grid(out, format, &nodes, values, &about)?;
     let strange = strange.map_or(String::new(), |text| format!("; {text}"));
     Ok(format!("{}: {} x {} values in {unit}{strange}\n", out.display(), nodes.latitudes.len(), nodes.longitudes.len()))
+}
+
+/// Write a grid and the files beside it; answers the unit of its numbers.
+fn write_grid(out: &Path, format: Format, nodes: &Nodes, values: Vec<f64>, about: &Provenance) -> Result<&'static str, Error> {
+    match format {
+        Format::Csv => write_with(out, |out| formats::csv(nodes, &values, out))?,
+        Format::Esri => write_with(out, |out| formats::esri(nodes, &values, out))?,
+        Format::NetCdf => write_with(out, |out| netcdf::write(nodes, &values, about, out))?,
+        Format::Png => write_whole(out, &picture(nodes, values, about)?)?,
+    }
+    write_beside(out, format, about)?;
+    Ok(if matches!(format, Format::Png) { about.quantity.unit } else { about.quantity.si_unit })
 }
 
 /// The files beside a grid of text, which has no place for its system and its history.
@@ -167,12 +173,13 @@ fn prepared(field: &Coefficients, cut: Option<usize>, normal: Option<NormalGravi
 }
 
 /// The map's file.
-fn picture(nodes: &Nodes, mut values: Vec<f64>, quantity: Quantity, title: &str, lines: &[String; 2]) -> Result<Vec<u8>, Error> {
+fn picture(nodes: &Nodes, mut values: Vec<f64>, about: &Provenance) -> Result<Vec<u8>, Error> {
+    let quantity = about.quantity;
     values.iter_mut().for_each(|value| *value *= quantity.per_si);
-    let subtitle = [lines[0].as_str(), lines[1].as_str()];
-    let image = map::draw(&Map { nodes, values: &values, unit: quantity.unit, title, subtitle })?;
-    let description = lines.join("; ");
-    Ok(png::encode(&image, &[("Title", title), ("Description", &description), ("Software", "geoid")]))
+    let subtitle = [about.source.as_str(), about.taken.as_str()];
+    let image = map::draw(&Map { nodes, values: &values, unit: quantity.unit, title: &about.title, subtitle })?;
+    let description = subtitle.join("; ");
+    Ok(png::encode(&image, &[("Title", &about.title), ("Description", &description), ("Software", "geoid")]))
 }
 
 fn source(path: &Path, field: &Coefficients) -> String {

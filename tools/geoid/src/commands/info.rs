@@ -26,7 +26,8 @@ pub const COMMAND: Command = Command {
         EPOCH,
     ],
     details: "Amplitudes are those on the field's own reference sphere; 'to here' is the root of the sum of squares\n\
-              from degree 2. Gravity is shown in mGal, gradients in E.\n",
+              from degree 2. Gravity is shown in mGal, gradients in E. The model's name and the time that the field is of\n\
+              are shown where the file tells them.\n",
     run,
 };
 
