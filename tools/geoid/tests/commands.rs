@@ -164,6 +164,9 @@ fn caps_are_ranked() {
     assert_eq!(lines.len(), 4);
     assert!(lines[0].starts_with("rank,order,concentration,c0,c1,"));
     assert!(lines.iter().all(|line| line.split(',').count() == 3 + 19));
+    // The best of a large cap lack so little of 1 that twelve digits don't show it.
+    let large = geoid(&["caps", "--degree", "30", "--angle", "90", "--top", "2"]).unwrap();
+    assert!(large.lines().last().unwrap().contains("  1 - ") || large.lines().last().unwrap().contains("  1 + "), "{large}");
     assert!(geoid(&["caps", "--degree", "181", "--angle", "40"]).unwrap_err().contains("from 0 to 180"));
 }
 

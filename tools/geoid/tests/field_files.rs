@@ -321,6 +321,9 @@ fn a_month_goes_wherever_a_field_goes() {
         fs::read(&csv).unwrap()
     };
     assert_eq!(grid(&text), grid(&model));
+    geoid(&["grid", &text, "--out", &csv, "--step", "45"]).unwrap();
+    let beside = fs::read_to_string(format!("{csv}.aux.xml")).unwrap();
+    assert!(beside.contains("file month, to degree 3, of 2018-06-01T00:00:00.000 to 2018-06-30T23:59:59.999</MDI>"), "{beside}");
 }
 
 #[test]

@@ -71,6 +71,7 @@ fn share(concentration: f64) -> String {
     let rest = 1.0 - concentration;
     match format!("{concentration:.12}") {
         digits if digits != "1.000000000000" => digits,
+        _ if rest == 0.0 => "1 - 0".to_string(),
         _ if rest < 0.0 => format!("1 + {:.1e}", -rest),
         _ => format!("1 - {rest:.1e}"),
     }
@@ -99,7 +100,7 @@ mod tests {
         assert_eq!(share(0.999999999404), "0.999999999404");
         assert_eq!(share(0.9999999999994), "0.999999999999");
         assert_eq!(share(1.0 - 2f64.powi(-50)), "1 - 8.9e-16");
-        assert_eq!(share(1.0), "1 - 0.0e0");
+        assert_eq!(share(1.0), "1 - 0");
         assert_eq!(share(1.0 + 2f64.powi(-52)), "1 + 2.2e-16");
         assert_eq!(share(0.25), "0.250000000000");
     }

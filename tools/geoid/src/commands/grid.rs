@@ -77,7 +77,7 @@ fn run(arguments: &Arguments) -> Result<String, Error> {
     let about = Provenance {
         quantity,
         title: arguments.text("--title")?.unwrap_or(quantity.title).to_string(),
-        source: file.name.iter().map(|name| format!("model {name}, file ")).collect::<String>() + &source(arguments.operand(0), &field),
+        source: source(file.name, arguments.operand(0), &field, file.time),
         taken: taken(normal, surface),
         history: format!("geoid {}: geoid grid {}", env!("CARGO_PKG_VERSION"), arguments.line),
         surface,
@@ -182,9 +182,12 @@ fn picture(nodes: &Nodes, mut values: Vec<f64>, about: &Provenance) -> Result<Ve
     Ok(png::encode(&image, &[("Title", &about.title), ("Description", &description), ("Software", "geoid")]))
 }
 
-fn source(path: &Path, field: &Coefficients) -> String {
+/// The model's name where it is known, its file, its degree, and the time that it is of.
+fn source(model: Option<String>, path: &Path, field: &Coefficients, time: Option<String>) -> String {
+    let model = model.map_or(String::new(), |name| format!("model {name}, file "));
     let name = path.file_name().unwrap_or_default().to_string_lossy();
-    format!("{name}, to degree {}", field.max_degree())
+    let time = time.map_or(String::new(), |time| format!(", of {time}"));
+    format!("{model}{name}, to degree {}{time}", field.max_degree())
 }
 
 fn taken(normal: Option<NormalGravity>, surface: Surface) -> String {
