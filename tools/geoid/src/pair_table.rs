@@ -55,7 +55,8 @@ impl PairTable {
             let (n, m) = pair_at(first);
             let others = if count == 1 { String::new() } else { format!(" (and {} more)", count - 1) };
             let degree = self.field.max_degree();
-            let what = format!("the pair ({n}, {m}) is absent{others}; expected every pair to degree {degree}, or --absent-as-zero");
+            let rule = if n == 0 { " (only a whole model of the Earth may leave out C(0,0))" } else { "" };
+            let what = format!("the pair ({n}, {m}) is absent{others}; expected every pair to degree {degree}{rule}, or --absent-as-zero");
             return Err(Fault::whole(what));
         }
         notes.push(format!("{count} of {} pairs are absent and taken as 0", self.lines.len()));

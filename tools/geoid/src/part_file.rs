@@ -1,6 +1,5 @@
 //! Files under work: they have names of their own, and go when the writing fails or a signal ends the program.
 
-use std::ffi::OsString;
 use std::fs::{self, File};
 use std::io;
 use std::path::{Path, PathBuf};
@@ -16,7 +15,7 @@ pub struct PartFile {
 impl PartFile {
     /// A new file beside a path. A name that is taken is never touched.
     pub fn beside(path: &Path) -> io::Result<PartFile> {
-        let part = path.with_file_name(part_name(path)?);
+        let part = path.with_file_name(part_name());
         signals::remember(&part);
         match File::create_new(&part) {
             Ok(file) => Ok(PartFile { path: part, file }),
@@ -43,14 +42,10 @@ impl Drop for PartFile {
 }
 
 /// A name that no other run has, on any machine that shares the folder: by process, moment and count.
-fn part_name(path: &Path) -> io::Result<OsString> {
+fn part_name() -> String {
     static COUNT: AtomicUsize = AtomicUsize::new(0);
-    let name = path.file_name().ok_or_else(|| io::Error::other("is no name of a file"))?;
     let moment = SystemTime::now().duration_since(UNIX_EPOCH).map_or(0, |since| since.as_nanos());
-    let mut part = OsString::from(".");
-    part.push(name);
-    part.push(format!(".{}-{moment}-{}.part", std::process::id(), COUNT.fetch_add(1, Ordering::Relaxed)));
-    Ok(part)
+    format!(".geoid-{}-{moment}-{}.part", std::process::id(), COUNT.fetch_add(1, Ordering::Relaxed))
 }
 
 pub use signals::catch as catch_signals;

@@ -300,6 +300,8 @@ fn a_month_of_grace() {
     assert_eq!(lines[1], "geoid: note: in.txt: the field of 2018-06-01T00:00:00.000 to 2018-06-30T23:59:59.999");
     let (free, _) = convert(&folder, month().replace(": inclusive", ": exclusive").as_bytes(), &[]).unwrap();
     assert_eq!(free.tide_system, TideSystem::TideFree);
+    let (crlf, _) = convert(&folder, month().replace('\n', "\r\n").as_bytes(), &[]).unwrap();
+    assert_eq!(crlf, field);
 }
 
 #[test]

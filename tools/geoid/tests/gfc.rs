@@ -190,7 +190,8 @@ fn a_whole_model_of_the_earth_may_begin_with_degree_two() {
     // A difference of months, a kernel and another body may not.
     for (from, to) in [("-0.484165D-03", "1.2D-10"), ("0.3986004415D+15", "1.0"), ("0.3986004415D+15", "4.28283D+13")] {
         let error = read(&text.replace(from, to)).unwrap_err();
-        assert!(error.starts_with("x.gfc: the pair (0, 0) is absent (and 2 more); "), "{error}");
+        let rule = "expected every pair to degree 2 (only a whole model of the Earth may leave out C(0,0)), or --absent-as-zero";
+        assert_eq!(error, format!("x.gfc: the pair (0, 0) is absent (and 2 more); {rule}"));
     }
     // With --absent-as-zero the convention still holds where it is known to.
     let zeros = Choices { absent_as_zero: true, ..Choices::default() };
