@@ -9,6 +9,8 @@ use crate::text::Fault;
 const EARTH_GM: f64 = 3.986004415e14;
 const EARTH_C20: f64 = -4.84165e-4;
 const EARTH_SHARE: f64 = 0.01;
+/// In the place of a line's number: the pair is given by convention.
+const BY_CONVENTION: usize = usize::MAX;
 
 /// A field with the number of the line that gave each pair, 0 where none did yet.
 pub struct PairTable {
@@ -75,12 +77,12 @@ impl PairTable {
     fn take_convention(&mut self) -> Result<Vec<String>, Fault> {
         let mut notes = Vec::new();
         if self.lines[0] == 0 {
-            self.put((0, 0), (1.0, 0.0), usize::MAX)?;
+            self.put((0, 0), (1.0, 0.0), BY_CONVENTION)?;
             notes.push("C(0,0) is absent and taken as 1, as in a model of the Earth whose GM stands for it".to_string());
         }
         if self.lines[1..3] == [0, 0] {
-            self.put((1, 0), (0.0, 0.0), usize::MAX)?;
-            self.put((1, 1), (0.0, 0.0), usize::MAX)?;
+            self.put((1, 0), (0.0, 0.0), BY_CONVENTION)?;
+            self.put((1, 1), (0.0, 0.0), BY_CONVENTION)?;
             notes.push("degree 1 is absent and taken as 0, as in a model of the Earth about its centre of mass".to_string());
         }
         Ok(notes)

@@ -116,3 +116,20 @@ mod signals {
     pub fn forget() {}
     pub fn catch() {}
 }
+
+#[cfg(test)]
+mod tests {
+    use super::PartFile;
+    use std::path::Path;
+
+    #[test]
+    fn parts_of_one_file_have_two_names_and_go() {
+        let place = std::env::temp_dir().join("geoid-part-file-test");
+        let (first, second) = (PartFile::beside(&place).unwrap(), PartFile::beside(&place).unwrap());
+        let paths = [first.path.clone(), second.path.clone()];
+        assert!(paths[0] != paths[1] && paths.iter().all(|path| path.exists()));
+        drop((first, second));
+        assert!(!paths.iter().any(|path| path.exists()));
+        assert!(PartFile::beside(Path::new("no/such/folder/x")).is_err());
+    }
+}

@@ -238,6 +238,8 @@ fn mistakes_in_lines_that_change_with_time() {
     for (from, to, expected) in cases {
         assert_eq!(refused(from, to), format!("in.txt: {expected}"));
     }
+    let error = convert(&folder, goco(&MOVING.replace("-1.0e-11  ", "1.0e308  ")).as_bytes(), &["--epoch", "2110"]).unwrap_err();
+    assert_eq!(error, "in.txt: line 16: at 2110-01-01 its pair is too large for a double; expected finite numbers");
     let both = goco(&format!("{MOVING}gfc 2 1 0.0 0.0 0.0 0.0\n"));
     let error = convert(&folder, both.as_bytes(), &["--epoch", "2010"]).unwrap_err();
     assert_eq!(error, "in.txt: line 21: the pair (2, 1) is given a second time (first in line 23); expected each pair once");

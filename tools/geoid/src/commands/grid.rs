@@ -34,7 +34,7 @@ pub const COMMAND: Command = Command {
         Opt { name: "--normal", value: "grs80|wgs84|none", help: "the normal field to take off; default grs80" },
         Opt { name: "--degree", value: "N", help: "cut the field to degree N" },
         LOVE,
-        Opt { name: "--title", value: "TEXT", help: "a map's title; default the functional's name" },
+        Opt { name: "--title", value: "TEXT", help: "the title of a map, .nc file or .aux.xml; default the functional's name" },
         ABSENT_AS_ZERO,
         EPOCH,
     ],

@@ -111,6 +111,10 @@ impl Moving {
             base.values = (base.values.0 + factor * term.values.0, base.values.1 + factor * term.values.1);
         }
         for (&pair, base) in &self.bases {
+            let (c, s) = base.values;
+            if !(c.is_finite() && s.is_finite()) {
+                return Err(Fault::at(base.line, format!("at {epoch} its pair is too large for a double; expected finite numbers")));
+            }
             table.put(pair, base.values, base.line)?;
         }
         Ok(self.bases.len())
