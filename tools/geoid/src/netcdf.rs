@@ -196,7 +196,7 @@ mod tests {
             taken: "c".into(),
             history: "h".into(),
             surface: Surface::Sphere(1.0),
-            less_normal: true,
+            normal: None,
         };
         head(&Nodes { region, step: 1.0, latitudes: axis.clone(), longitudes: axis }, &about)
     }

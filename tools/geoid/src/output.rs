@@ -60,7 +60,7 @@ pub fn read_whole(path: &Path) -> Result<Vec<u8>, Error> {
     fs::read(path).map_err(|error| Error::in_file(path, format!("cannot be read: {error}")))
 }
 
-/// A line on standard error that is no refusal.
+/// A line on standard error that is no refusal. What a file says of itself may be in it, so control characters are shown as `?`.
 pub fn note(text: &str) {
-    let _ = writeln!(io::stderr(), "geoid: note: {text}");
+    let _ = writeln!(io::stderr(), "geoid: note: {}", text.replace(char::is_control, "?"));
 }

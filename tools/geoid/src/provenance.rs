@@ -1,6 +1,7 @@
 //! What a grid's file says of its values: which they are, of which model, where, and by which command.
 
 use crate::grid::Surface;
+use crate::normal::NormalGravity;
 use crate::quantity::Quantity;
 
 /// Where a grid's values come from.
@@ -15,8 +16,8 @@ pub struct Provenance {
     /// The program and its command line.
     pub history: String,
     pub surface: Surface,
-    /// Whether the normal field was taken off.
-    pub less_normal: bool,
+    /// The normal field that was taken off.
+    pub normal: Option<NormalGravity>,
 }
 
 impl Provenance {
@@ -36,9 +37,9 @@ impl Provenance {
     }
 
     /// CF's own name of the quantity, where it has one that says just this: geoid heights above an
-    /// ellipsoid are those at its points, less its normal field.
+    /// ellipsoid are those at its points, less its own normal field.
     pub fn standard_name(&self) -> Option<&'static str> {
-        let on_ellipsoid = matches!(self.surface, Surface::Ellipsoid(_));
-        (self.quantity.name == "geoid-height" && on_ellipsoid && self.less_normal).then_some("geoid_height_above_reference_ellipsoid")
+        let above_its_own = self.normal.map(Surface::Ellipsoid) == Some(self.surface);
+        (self.quantity.name == "geoid-height" && above_its_own).then_some("geoid_height_above_reference_ellipsoid")
     }
 }

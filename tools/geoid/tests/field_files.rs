@@ -217,6 +217,31 @@ gfc  2 1 -2.0e-10 1.4e-09 1e-13 1e-13
 }
 
 #[test]
+fn a_cut_in_the_last_pair_that_changes_is_noted() {
+    let folder = Folder::new();
+    let lines = "gfct 2 1 -2e-10 1e-09 0 0 20100101\ntrnd 2 1 1e-12 0 0 0\nacos 2 1 1e-12 0 0 0 1.0\n";
+    let last = "gfct 2 2 2.4e-6 -1.4e-06 0 0 20100101\ntrnd 2 2 1e-12 0 0 0\nacos 2 2 1e-12 0 0 0 1.0\n";
+    let head = goco("gfc 2 0 -4.8416948e-04 0 0 0\n");
+    let whole = format!("{}{lines}{last}", &head[..head.find("gfc     2    2").unwrap()]);
+    let notes = |text: &str| convert(&folder, text.as_bytes(), &["--epoch", "2012"]).unwrap().1;
+    assert!(!notes(&whole).contains("whole?"));
+    let cut = &whole[..whole.rfind("acos").unwrap()];
+    let note = "its last pair that changes with time, (2, 2), has 2 lines and the one before it 3; is the file whole?";
+    assert!(notes(cut).contains(note), "{}", notes(cut));
+    // Where other pairs follow, it is no end.
+    let before = goco(&format!("{lines}gfct 2 0 -4.8416948e-04 0 0 0 20100101\n"));
+    assert!(!notes(&before).contains("whole?"));
+}
+
+#[test]
+fn control_characters_are_not_shown() {
+    let folder = Folder::new();
+    let text = folder.file("x.gfc");
+    fs::write(&text, eigen().replace("EIGEN-TEST", "\x1b[31mRED")).unwrap();
+    assert!(geoid(&["info", &text]).unwrap().starts_with("model        ?[31mRED\n"));
+}
+
+#[test]
 fn mistakes_in_lines_that_change_with_time() {
     let folder = Folder::new();
     let refused = |from: &str, to: &str| {

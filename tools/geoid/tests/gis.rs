@@ -153,14 +153,14 @@ fn netcdf_has_the_grids_numbers() {
 #[test]
 fn netcdf_has_the_names_of_cf() {
     let folder = Folder::new();
-    let out = grid(&folder, "g.nc", &["--ellipsoid", "wgs84", "--title", "Géoïde d'essai"]);
+    let out = grid(&folder, "g.nc", &["--ellipsoid", "wgs84", "--normal", "wgs84", "--title", "Géoïde d'essai"]);
     let nc = dataset(&out);
     assert_eq!(text(&nc.attributes, "Conventions"), "CF-1.8");
     assert_eq!(text(&nc.attributes, "title"), "Géoïde d'essai");
     assert_eq!(text(&nc.attributes, "source"), "model TEST-2026, file model.gfc, to degree 6");
-    assert!(text(&nc.attributes, "comment").contains("less the normal field GRS80, on the ellipsoid WGS84"));
+    assert!(text(&nc.attributes, "comment").contains("less the normal field WGS84, on the ellipsoid WGS84"));
     let history = text(&nc.attributes, "history");
-    let words = format!("--out {out} --region -10/20/30/50 --step 10 --ellipsoid wgs84 --title 'Géoïde d'\\''essai'");
+    let words = format!("--out {out} --region -10/20/30/50 --step 10 --ellipsoid wgs84 --normal wgs84 --title 'Géoïde d'\\''essai'");
     assert!(history.starts_with("geoid 0.1.0: geoid grid ") && history.ends_with(&words), "{history}");
     let values = &nc.variables["geoid_height"].attributes;
     assert_eq!(text(values, "standard_name"), "geoid_height_above_reference_ellipsoid");
@@ -189,8 +189,11 @@ fn names_say_no_more_than_the_values_are() {
     assert!(!sphere.variables["geoid_height"].attributes.contains_key("standard_name"));
     assert_eq!(text(&sphere.variables["lat"].attributes, "long_name"), "geocentric latitude");
     assert_eq!(number(&sphere.variables["crs"].attributes, "earth_radius"), 6378136.3);
-    let whole = dataset(&grid(&folder, "g.nc", &["--ellipsoid", "grs80", "--normal", "none"]));
-    assert!(!whole.variables["geoid_height"].attributes.contains_key("standard_name"));
+    // Nor are those of the field itself, or less another ellipsoid's normal field.
+    for normal in ["none", "wgs84"] {
+        let other = dataset(&grid(&folder, "g.nc", &["--ellipsoid", "grs80", "--normal", normal]));
+        assert!(!other.variables["geoid_height"].attributes.contains_key("standard_name"));
+    }
     for (functional, variable, units) in [
         ("potential", "potential", "m2 s-2"),
         ("gravity-disturbance", "gravity_disturbance", "m s-2"),

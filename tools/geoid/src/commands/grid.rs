@@ -81,7 +81,7 @@ fn run(arguments: &Arguments) -> Result<String, Error> {
         taken: taken(normal, surface),
         history: format!("geoid {}: geoid grid {}", env!("CARGO_PKG_VERSION"), arguments.line),
         surface,
-        less_normal: normal.is_some(),
+        normal,
     };
     let unit = write_grid(out, format, &nodes, values, &about)?;
     let strange = strange.map_or(String::new(), |text| format!("; {text}"));

@@ -42,12 +42,12 @@ fn run(arguments: &Arguments) -> Result<String, Error> {
     Ok(sayings(&file) + &head(field) + &table(&amplitudes, &shown, quantity) + "\n" + &plot::bars(&amplitudes, quantity.unit))
 }
 
-/// What the file itself says of the field, and what was taken for granted.
+/// What the file itself says of the field, and what was taken for granted. Control characters are shown as `?`.
 fn sayings(file: &FieldFile) -> String {
     let name = file.name.iter().map(|name| ("model", name));
     let time = file.time.iter().map(|time| ("time", time));
     let notes = file.notes.iter().map(|text| ("note", text));
-    name.chain(time).chain(notes).map(|(label, text)| format!("{label:<13}{text}\n")).collect()
+    name.chain(time).chain(notes).map(|(label, text)| format!("{label:<13}{}\n", text.replace(char::is_control, "?"))).collect()
 }
 
 fn head(field: &Coefficients) -> String {

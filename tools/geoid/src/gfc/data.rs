@@ -36,26 +36,35 @@ pub struct Record<'a> {
     pub times: Vec<&'a str>,
 }
 
-/// Read the pairs behind line `end`, those that change with time as they are at the epoch. Also answers
-/// how many of those there are.
-pub fn read(head: &Head, text: &str, end: usize, epoch: Option<Date>) -> Result<(PairTable, usize), Fault> {
+/// The pairs of a text, how many of them change with time, and what is doubtful about those.
+pub struct Pairs {
+    pub table: PairTable,
+    pub moved: usize,
+    pub doubt: Option<String>,
+}
+
+/// Read the pairs behind line `end`, those that change with time as they are at the epoch.
+pub fn read(head: &Head, text: &str, end: usize, epoch: Option<Date>) -> Result<Pairs, Fault> {
     let mut field =
         Coefficients::try_zeros(head.gm, head.radius, head.max_degree).map_err(|refusal| Fault::at(end, refusal.to_string()))?;
     field.tide_system = head.tide_system;
     let mut table = PairTable::new(field);
     let mut moving = Moving::new(head.intervals, epoch);
     let mut sigmas = head.sigmas;
+    let mut ends_moving = false;
     let mut progress = Progress::new("reading pairs", table.pairs());
     for (line, content) in (1..).zip(text.lines()).skip(end) {
         let Some(record) = record(line, content, head, &mut sigmas).map_err(|what| Fault::at(line, what))? else { continue };
+        ends_moving = record.kind != Kind::Still;
         match record.kind {
             Kind::Still => table.put(record.pair, record.values, line)?,
             _ => moving.keep(&record).map_err(|what| Fault::at(line, what))?,
         }
         progress.advance(1);
     }
+    let doubt = moving.doubt().filter(|_| ends_moving);
     let moved = moving.put_into(&mut table)?;
-    Ok((table, moved))
+    Ok(Pairs { table, moved, doubt })
 }
 
 /// The numbers of a line of some kind that stand behind its standard deviations.

@@ -44,17 +44,28 @@ pub struct Moving {
     pairs: BTreeMap<Pair, usize>,
     /// The line of each term by its kind, pair and period.
     seen: HashMap<(Kind, Pair, u64), usize>,
+    /// How many lines the last two pairs of the file have that follow each other.
+    groups: [(Option<Pair>, usize); 2],
 }
 
 impl Moving {
     pub fn new(intervals: bool, epoch: Option<Date>) -> Self {
-        Moving { intervals, epoch, bases: BTreeMap::new(), terms: Vec::new(), pairs: BTreeMap::new(), seen: HashMap::new() }
+        Moving {
+            intervals,
+            epoch,
+            bases: BTreeMap::new(),
+            terms: Vec::new(),
+            pairs: BTreeMap::new(),
+            seen: HashMap::new(),
+            groups: [(None, 0); 2],
+        }
     }
 
     /// Keep a line, if it counts at the epoch.
     pub fn keep(&mut self, record: &Record) -> Result<(), String> {
         let epoch =
             self.epoch.ok_or_else(|| format!("a '{}' line, of a field that changes with time; expected --epoch DATE", record.keyword))?;
+        self.count(record.pair);
         let period = match record.kind {
             Kind::Cosine | Kind::Sine => period(record.times[record.times.len() - 1])?,
             _ => 0.0,
@@ -83,6 +94,23 @@ impl Moving {
             _ => self.terms.push(Term { line: record.line, kind: record.kind, pair: record.pair, values: record.values, from, period }),
         }
         Ok(())
+    }
+
+    fn count(&mut self, pair: Pair) {
+        if self.groups[1].0 != Some(pair) {
+            self.groups = [self.groups[1], (Some(pair), 0)];
+        }
+        self.groups[1].1 += 1;
+    }
+
+    /// A file that is cut between two lines of its last pair has all its pairs: what is to be said where
+    /// that pair has fewer lines than the one before it.
+    pub fn doubt(&self) -> Option<String> {
+        let [(_, before), (last, lines)] = self.groups;
+        let (n, m) = last.filter(|_| lines < before)?;
+        Some(format!(
+            "its last pair that changes with time, ({n}, {m}), has {lines} lines and the one before it {before}; is the file whole?"
+        ))
     }
 
     fn once(&mut self, record: &Record, period: f64) -> Result<(), String> {

@@ -11,6 +11,7 @@ mod head;
 mod number;
 mod write;
 
+use data::Pairs;
 pub use number::{number, whole};
 pub use write::write;
 
@@ -26,8 +27,9 @@ pub fn is_gfc(text: &str) -> bool {
 pub fn read(text: &str, choices: &Choices) -> Result<FieldFile, Fault> {
     let (head, end) = head::read(text)?;
     check_end(text)?;
-    let (table, moved) = data::read(&head, text, end, choices.epoch)?;
+    let Pairs { table, moved, doubt } = data::read(&head, text, end, choices.epoch)?;
     let (field, mut notes) = table.finish(choices.absent_as_zero)?;
+    notes.extend(doubt);
     let time = choices.epoch.filter(|_| moved > 0).map(|epoch| format!("{epoch} (the {moved} pairs that change with time)"));
     if time.is_none() {
         notes.extend(choices.unused_epoch());
