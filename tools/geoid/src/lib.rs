@@ -4,16 +4,19 @@
 //! [`commands::main`] prints. Files are written whole or not at all ([`output`]).
 
 pub mod arguments;
+pub mod body;
 pub mod canvas;
 pub mod colours;
 pub mod commands;
 pub mod deflate;
+pub mod difference;
 pub mod error;
 pub mod field_file;
 pub mod font;
 pub mod formats;
 pub mod gfc;
 pub mod grid;
+pub mod heights;
 pub mod love;
 pub mod map;
 pub mod normal;
@@ -23,5 +26,7 @@ pub mod png;
 pub mod progress;
 pub mod quantity;
 pub mod random;
+pub mod reduction;
+pub mod rows;
 pub mod sample;
 pub mod scale;

@@ -2,10 +2,11 @@
 
 use geopotential::{Coefficients, TideSystem};
 
-use super::{Command, FUNCTIONAL, LOVE};
+use super::{Command, FUNCTIONAL, LOVE, field_or_kernel};
 use crate::arguments::{Arguments, Opt};
+use crate::body::ANY_BODY;
 use crate::error::Error;
-use crate::field_file::{load, pairs};
+use crate::field_file::pairs;
 use crate::plot;
 use crate::quantity::Quantity;
 
@@ -18,7 +19,7 @@ pub const COMMAND: Command = Command {
     summary: "a field's head, its degree amplitudes and a plot of them",
     usage: "FILE [OPTIONS]",
     operands: &["FILE"],
-    options: &[FUNCTIONAL, LOVE, Opt { name: "--all", value: "", help: "every degree in the table, however many there are" }],
+    options: &[FUNCTIONAL, LOVE, Opt { name: "--all", value: "", help: "every degree in the table, however many there are" }, ANY_BODY],
     details: "Amplitudes are those on the field's own reference sphere; 'to here' is the root of the sum of squares\n\
               from degree 2. Gravity is shown in mGal, gradients in E.\n",
     run,
@@ -27,8 +28,9 @@ pub const COMMAND: Command = Command {
 fn run(arguments: &Arguments) -> Result<String, Error> {
     let quantity = Quantity::named(arguments.text("--functional")?)?;
     let love = quantity.love(arguments.path("--love"))?;
-    let field = load(arguments.operand(0))?;
-    let mut amplitudes = field.try_degree_amplitudes(&(quantity.functional)(&love))?;
+    let field = field_or_kernel(arguments, arguments.operand(0))?;
+    love.check(field.max_degree())?;
+    let mut amplitudes = field.try_degree_amplitudes(&(quantity.functional)(&love.numbers))?;
     amplitudes.iter_mut().for_each(|amplitude| *amplitude *= quantity.per_si);
     let shown = degrees(field.max_degree(), arguments.has("--all"));
     Ok(head(&field) + &table(&amplitudes, &shown, quantity) + "\n" + &plot::bars(&amplitudes, quantity.unit))

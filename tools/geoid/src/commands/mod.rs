@@ -6,13 +6,19 @@ mod convert;
 mod grid;
 mod info;
 mod sample;
+mod subtract;
 
 use std::ffi::OsString;
 use std::io::{self, ErrorKind, Write};
+use std::path::Path;
 use std::process::ExitCode;
 
+use geopotential::Coefficients;
+
 use crate::arguments::{Arguments, Opt};
+use crate::body;
 use crate::error::Error;
+use crate::field_file::load;
 
 /// A command: how it is called, what its help says, and what runs it. It answers the text for standard
 /// output.
@@ -26,7 +32,8 @@ pub struct Command {
     pub run: fn(&Arguments) -> Result<String, Error>,
 }
 
-const COMMANDS: [&Command; 6] = [&convert::COMMAND, &info::COMMAND, &grid::COMMAND, &average::COMMAND, &caps::COMMAND, &sample::COMMAND];
+const COMMANDS: [&Command; 7] =
+    [&convert::COMMAND, &info::COMMAND, &grid::COMMAND, &average::COMMAND, &subtract::COMMAND, &caps::COMMAND, &sample::COMMAND];
 
 /// Run the words of a command line: the answer goes to standard output, an error's one line to
 /// standard error.
@@ -78,7 +85,7 @@ fn overview() -> String {
          usage: geoid COMMAND ..., geoid COMMAND --help, geoid --version\n\n",
     );
     for command in COMMANDS {
-        text.push_str(&format!("  {:<9}{}\n", command.name, command.summary));
+        text.push_str(&format!("  {:<10}{}\n", command.name, command.summary));
     }
     text + "\nA field is a model file or ICGEM text (.gfc); either is known by its first byte.\n"
 }
@@ -104,6 +111,20 @@ impl Command {
         }
         text + "\n" + self.details
     }
+}
+
+/// A field from a file, its head checked.
+fn field(arguments: &Arguments, path: &Path) -> Result<Coefficients, Error> {
+    let field = load(path)?;
+    body::check_field(path, &field, arguments.has(body::ANY_BODY.name))?;
+    Ok(field)
+}
+
+/// A field or a kernel from a file, its head checked.
+fn field_or_kernel(arguments: &Arguments, path: &Path) -> Result<Coefficients, Error> {
+    let field = load(path)?;
+    body::check_either(path, &field, arguments.has(body::ANY_BODY.name))?;
+    Ok(field)
 }
 
 /// The option that names a functional, with its values.
