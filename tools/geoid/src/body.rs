@@ -14,7 +14,7 @@ pub const ANY_BODY: Opt =
 /// How far the constants of an Earth model may lie from WGS84's, relatively.
 const EARTH: f64 = 0.01;
 /// The least radius at which a field is taken, in its own radius.
-const INSIDE: f64 = 0.9;
+pub const INSIDE: f64 = 0.9;
 /// A kernel's share of the sphere may exceed 1 by rounding only.
 const ROUNDING: f64 = 1e-9;
 /// A first coefficient as near to 1 as this, in a head of the Earth, is a field's.

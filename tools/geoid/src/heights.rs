@@ -4,10 +4,14 @@
 //! `(GM/r²)/γ`; by a potential `W₀` of the geoid other than the ellipsoid's `U₀` it is less `(W₀ − U₀)/γ`
 //! (Bruns' formula, Heiskanen & Moritz, §2.17). The margin is proved of the library's number.
 
+use geopotential::Coefficients;
+
 use crate::arguments::{Arguments, Opt};
 use crate::error::Error;
 use crate::normal::NormalGravity;
+use crate::output::note;
 use crate::quantity::Quantity;
+use crate::reduction::ZERO_DEGREE;
 
 pub const GAMMA: Opt = Opt {
     name: "--gamma",
@@ -44,7 +48,12 @@ impl Heights {
                 None => Ok(None),
             };
         }
-        Ok(Some(Heights { gamma: gamma(arguments, ellipsoid)?, datum: datum(arguments, normal)? }))
+        Self::of_height(arguments, ellipsoid, normal).map(Some)
+    }
+
+    /// What the options say of geoid heights.
+    pub fn of_height(arguments: &Arguments, ellipsoid: Option<NormalGravity>, normal: Option<NormalGravity>) -> Result<Self, Error> {
+        Ok(Heights { gamma: gamma(arguments, ellipsoid)?, datum: datum(arguments, normal)? })
     }
 
     /// By what the library's height is multiplied, and what is then taken off, at a geodetic latitude
@@ -52,8 +61,12 @@ impl Heights {
     pub fn factor_and_shift(&self, gm: f64, latitude: f64, radius: f64) -> (f64, f64) {
         let sphere = gm / (radius * radius);
         let gamma = self.gamma.map_or(sphere, |ellipsoid| ellipsoid.surface_gravity(latitude.to_radians()));
-        let factor = self.gamma.map_or(1.0, |_| sphere / gamma);
-        (factor, self.datum.map_or(0.0, |(w0, normal)| (w0 - normal.u0()) / gamma))
+        (self.gamma.map_or(1.0, |_| sphere / gamma), self.shift() / gamma)
+    }
+
+    /// `W₀ − U₀`, which is taken off the potential; 0 where no option gives `W₀`.
+    pub fn shift(&self) -> f64 {
+        self.datum.map_or(0.0, |(w0, normal)| w0 - normal.u0())
     }
 
     /// What the potential was divided by, for a map's subtitle and a file's header.
@@ -64,9 +77,40 @@ impl Heights {
         };
         match self.datum {
             None => gamma,
-            Some((w0, normal)) => format!("{gamma}, W0 {w0} against U0 {:.3} of {}", normal.u0(), normal.name),
+            Some(_) => format!("{gamma}, {}", self.datum_line()),
         }
     }
+
+    fn datum_line(&self) -> String {
+        self.datum.map_or(String::new(), |(w0, normal)| format!("W0 {w0} against U0 {:.3} of {}", normal.u0(), normal.name))
+    }
+
+    /// Say on standard error how the heights of a grid are made of those of the library.
+    pub fn tell(&self, arguments: &Arguments, rest: &Coefficients) -> Result<(), Error> {
+        if self.gamma.is_some() {
+            note(&format!("{}; the margin is proved of the library's, geoid average has no such factor", self.line()));
+        } else if self.datum.is_some() {
+            note(&format!("{}: its part is taken off the library's heights", self.line()));
+        }
+        tell_zero_degree(arguments, rest)
+    }
+
+    /// Say it of the heights of points.
+    pub fn tell_points(&self, arguments: &Arguments, rest: &Coefficients) -> Result<(), Error> {
+        if self.datum.is_some() {
+            note(&format!("{}: its part is taken off the heights", self.datum_line()));
+        }
+        tell_zero_degree(arguments, rest)
+    }
+}
+
+/// Say what degree 0 of a reduced field is of every height, where no option says whether it is kept.
+fn tell_zero_degree(arguments: &Arguments, rest: &Coefficients) -> Result<(), Error> {
+    let first = rest.try_c(0, 0)? * rest.radius;
+    if first != 0.0 && !arguments.has(ZERO_DEGREE.name) {
+        note(&format!("degree 0 is kept: about {first:.3} m of every height (--zero-degree drop leaves it out)"));
+    }
+    Ok(())
 }
 
 fn gamma(arguments: &Arguments, ellipsoid: Option<NormalGravity>) -> Result<Option<NormalGravity>, Error> {

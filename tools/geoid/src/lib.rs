@@ -23,6 +23,7 @@ pub mod normal;
 pub mod output;
 pub mod plot;
 pub mod png;
+pub mod point_list;
 pub mod progress;
 pub mod quantity;
 pub mod random;

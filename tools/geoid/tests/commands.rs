@@ -10,7 +10,7 @@ use support::{Folder, geoid};
 #[test]
 fn help_names_everything() {
     let help = geoid(&["--help"]).unwrap();
-    for command in ["convert", "info", "grid", "average", "subtract", "caps", "sample"] {
+    for command in ["convert", "info", "grid", "points", "average", "subtract", "caps", "sample"] {
         assert!(help.contains(&format!("\n  {command} ")), "{command}");
         assert!(geoid(&[command, "--help"]).unwrap().starts_with(&format!("usage: geoid {command}")));
     }
@@ -22,8 +22,14 @@ fn help_names_everything() {
 fn wrong_words_are_named() {
     let cases: [(&[&str], &str); 20] = [
         (&[], "no command; see geoid --help"),
-        (&["gird"], "unknown command 'gird'; expected one of convert, info, grid, average, subtract, caps, sample, --help, --version"),
-        (&["--wrong"], "unknown option '--wrong'; expected one of convert, info, grid, average, subtract, caps, sample, --help, --version"),
+        (
+            &["gird"],
+            "unknown command 'gird'; expected one of convert, info, grid, points, average, subtract, caps, sample, --help, --version",
+        ),
+        (
+            &["--wrong"],
+            "unknown option '--wrong'; expected one of convert, info, grid, points, average, subtract, caps, sample, --help, --version",
+        ),
         (&["info"], "FILE is missing; see geoid info --help"),
         (&["info", "a", "b"], "unexpected word 'b'; see geoid info --help"),
         (&["info", "a", "--colour"], "unknown option '--colour'; see geoid info --help"),

@@ -14,7 +14,7 @@ use crate::grid::{GLOBE, Nodes, Region, Surface, cores, evaluate_by};
 use crate::heights::{GAMMA, Heights, W0};
 use crate::map::{self, Map};
 use crate::normal::NormalGravity;
-use crate::output::{note, write_whole, write_with};
+use crate::output::{write_whole, write_with};
 use crate::png;
 use crate::quantity::{Love, Quantity};
 use crate::reduction::{NORMAL, Reduction, Wish, ZERO_DEGREE};
@@ -145,7 +145,7 @@ impl Task {
         let heights = Heights::chosen(arguments, quantity, surface.ellipsoid(), reduction.normal)?;
         let field = reduction.of(&whole)?;
         if let Some(heights) = heights {
-            tell_heights(&heights, &field, arguments)?;
+            heights.tell(arguments, &field)?;
         }
         let lines = [source(arguments.operand(0), &field, heights), taken(reduction, surface)];
         Ok(Task { quantity, nodes, surface, field, love, heights, lines })
@@ -174,18 +174,6 @@ impl Task {
         let (rows, columns) = (self.nodes.latitudes.len(), self.nodes.longitudes.len());
         Ok(Whole { fingerprint: rows::fingerprint(parts), rows, columns })
     }
-}
-
-/// Say how the heights are made where no option says so.
-fn tell_heights(heights: &Heights, field: &Coefficients, arguments: &Arguments) -> Result<(), Error> {
-    if heights.gamma.is_some() {
-        note(&format!("{}; the margin is proved of the library's, geoid average has no such factor", heights.line()));
-    }
-    let first = field.try_c(0, 0)? * field.radius;
-    if first != 0.0 && !arguments.has(ZERO_DEGREE.name) {
-        note(&format!("degree 0 is kept: about {first:.3} m of every height (--zero-degree drop leaves it out)"));
-    }
-    Ok(())
 }
 
 fn nodes(arguments: &Arguments) -> Result<Nodes, Error> {

@@ -5,6 +5,7 @@ mod caps;
 mod convert;
 mod grid;
 mod info;
+mod points;
 mod sample;
 mod subtract;
 
@@ -32,8 +33,16 @@ pub struct Command {
     pub run: fn(&Arguments) -> Result<String, Error>,
 }
 
-const COMMANDS: [&Command; 7] =
-    [&convert::COMMAND, &info::COMMAND, &grid::COMMAND, &average::COMMAND, &subtract::COMMAND, &caps::COMMAND, &sample::COMMAND];
+const COMMANDS: &[&Command] = &[
+    &convert::COMMAND,
+    &info::COMMAND,
+    &grid::COMMAND,
+    &points::COMMAND,
+    &average::COMMAND,
+    &subtract::COMMAND,
+    &caps::COMMAND,
+    &sample::COMMAND,
+];
 
 /// Run the words of a command line: the answer goes to standard output, an error's one line to
 /// standard error.
