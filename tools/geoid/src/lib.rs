@@ -5,6 +5,7 @@
 
 pub mod arguments;
 pub mod body;
+pub mod calendar;
 pub mod canvas;
 pub mod colours;
 pub mod commands;
@@ -14,6 +15,7 @@ pub mod error;
 pub mod field_file;
 pub mod font;
 pub mod formats;
+pub mod gauss;
 pub mod gfc;
 pub mod grid;
 pub mod heights;
@@ -31,3 +33,4 @@ pub mod reduction;
 pub mod rows;
 pub mod sample;
 pub mod scale;
+pub mod technical_note;

@@ -45,7 +45,8 @@ fn gravity_and_heights_are_those_of_geographiclib() {
     geoid(&["sample", &model]).unwrap();
     fs::write(&list, LIST).unwrap();
     let text = geoid(&["points", &model, "--at", &list]).unwrap();
-    let heading = "name,latitude,longitude,height,potential (m²/s²),gravity north (m/s²),gravity east (m/s²),gravity up (m/s²),geoid height (m)";
+    let heading =
+        "name,latitude,longitude,height,potential (m²/s²),gravity north (m/s²),gravity east (m/s²),gravity up (m/s²),geoid height (m)";
     assert_eq!(text.lines().next(), Some(heading));
     assert!(text.contains("\n\"Ob, mouth\",66.5,73.5,12,6261"), "{text}");
     let rows = numbers(&text, 5);
@@ -119,7 +120,9 @@ fn lists_that_are_wrong_are_named() {
         fs::write(&list, text).unwrap();
         geoid(&["points", &model, "--at", &list]).unwrap_err().replace(folder.path().to_str().unwrap(), "")
     };
-    assert!(refused("lat,lon,radius\n10,20,6878137\n10,20,6878.137\n").starts_with("/list.csv: line 3: 6878 m from the centre, deep below"));
+    assert!(
+        refused("lat,lon,radius\n10,20,6878137\n10,20,6878.137\n").starts_with("/list.csv: line 3: 6878 m from the centre, deep below")
+    );
     assert_eq!(refused("lat,lon,height\n10,20\n"), "/list.csv: line 2: 2 fields; expected 3, as in the line of names");
     assert!(refused("10,20,0\n").contains("line 1: no column latitude"));
     assert!(geoid(&["points", &model]).unwrap_err().starts_with("--at LIST.csv is missing"));

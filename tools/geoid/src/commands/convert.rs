@@ -4,7 +4,7 @@ use geopotential::{Coefficients, MAX_DEGREE};
 
 use super::{Command, field_or_kernel};
 use crate::arguments::{Arguments, Opt};
-use crate::body::ANY_BODY;
+use crate::body::{ANY_BODY, check_either};
 use crate::error::Error;
 use crate::field_file::{pairs, save};
 
@@ -29,6 +29,7 @@ pub const COMMAND: Command = Command {
 fn run(arguments: &Arguments) -> Result<String, Error> {
     let (from, to) = (arguments.operand(0), arguments.operand(1));
     let field = expressed(arguments, field_or_kernel(arguments, from)?)?;
+    check_either(to, &field, arguments.has(ANY_BODY.name))?;
     save(to, &field)?;
     Ok(format!("{}: degree {}, {} pairs\n", to.display(), field.max_degree(), pairs(&field)))
 }

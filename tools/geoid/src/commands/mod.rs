@@ -6,7 +6,9 @@ mod convert;
 mod grid;
 mod info;
 mod points;
+mod replace;
 mod sample;
+mod smooth;
 mod subtract;
 
 use std::ffi::OsString;
@@ -40,6 +42,8 @@ const COMMANDS: &[&Command] = &[
     &points::COMMAND,
     &average::COMMAND,
     &subtract::COMMAND,
+    &replace::COMMAND,
+    &smooth::COMMAND,
     &caps::COMMAND,
     &sample::COMMAND,
 ];
