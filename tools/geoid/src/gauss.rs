@@ -14,7 +14,7 @@ pub const MEAN_RADIUS: f64 = 6_371_000.0;
 pub fn weights(radius: f64, max_degree: usize) -> Vec<f64> {
     let half = (radius / MEAN_RADIUS / 2.0).sin();
     let b = LN_2 / (2.0 * half * half); // 1 − cos x = 2 sin²(x/2)
-    let mut ratios = vec![0.0; max_degree + 1];
+    let mut ratios = vec![1.0; max_degree + 1];
     let mut ratio = 0.0;
     for n in (1..=start(b, max_degree)).rev() {
         ratio = 1.0 / ((2 * n + 1) as f64 / b + ratio);
@@ -22,15 +22,11 @@ pub fn weights(radius: f64, max_degree: usize) -> Vec<f64> {
             *place = ratio;
         }
     }
-    let mut weight = 1.0;
-    ratios
-        .iter()
-        .enumerate()
-        .map(|(n, ratio)| {
-            weight *= if n == 0 { 1.0 } else { *ratio };
-            weight
-        })
-        .collect()
+    let product = |weight: &mut f64, ratio: f64| {
+        *weight *= ratio;
+        Some(*weight)
+    };
+    ratios.into_iter().scan(1.0, product).collect()
 }
 
 /// Where the downward run begins. What it begins with is forgotten by `(W(start)/W(max_degree))²`, about
