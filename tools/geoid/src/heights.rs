@@ -69,36 +69,32 @@ impl Heights {
         self.datum.map_or(0.0, |(w0, normal)| w0 - normal.u0())
     }
 
-    /// What the potential was divided by, for a map's subtitle and a file's header.
-    pub fn line(&self) -> String {
-        let gamma = match self.gamma {
-            None => "heights by GM/r²".into(),
-            Some(ellipsoid) => format!("heights by normal gravity of {} (the library's times one factor a row)", ellipsoid.name),
-        };
-        match self.datum {
-            None => gamma,
-            Some(_) => format!("{gamma}, {}", self.datum_line()),
-        }
+    /// What the potential is divided by, behind the name of the surface.
+    pub fn gamma_line(&self) -> &'static str {
+        if self.gamma.is_some() { "heights by its normal gravity" } else { "heights by GM/r²" }
     }
 
-    fn datum_line(&self) -> String {
-        self.datum.map_or(String::new(), |(w0, normal)| format!("W0 {w0} against U0 {:.3} of {}", normal.u0(), normal.name))
+    /// The potential of the geoid, where an option gives one.
+    pub fn datum_line(&self) -> Option<String> {
+        self.datum.map(|(w0, normal)| format!("W0 {w0} against U0 {:.3} of {}", normal.u0(), normal.name))
     }
 
     /// Say on standard error how the heights of a grid are made of those of the library.
     pub fn tell(&self, arguments: &Arguments, rest: &Coefficients) -> Result<(), Error> {
-        if self.gamma.is_some() {
-            note(&format!("{}; the margin is proved of the library's, geoid average has no such factor", self.line()));
-        } else if self.datum.is_some() {
-            note(&format!("{}: its part is taken off the library's heights", self.line()));
+        if let Some(ellipsoid) = self.gamma {
+            note(&format!(
+                "heights are the library's times one factor a row, (GM/r²)/γ with γ the normal gravity of {}: \
+                 the margin is proved of the library's, and geoid average has no such factor (--gamma sphere)",
+                ellipsoid.name
+            ));
         }
-        tell_zero_degree(arguments, rest)
+        self.tell_points(arguments, rest)
     }
 
     /// Say it of the heights of points.
     pub fn tell_points(&self, arguments: &Arguments, rest: &Coefficients) -> Result<(), Error> {
-        if self.datum.is_some() {
-            note(&format!("{}: its part is taken off the heights", self.datum_line()));
+        if let Some(line) = self.datum_line() {
+            note(&format!("{line}: (W0 - U0)/γ is taken off every height"));
         }
         tell_zero_degree(arguments, rest)
     }

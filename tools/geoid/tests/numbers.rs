@@ -109,7 +109,8 @@ fn heights_by_the_ellipsoid_are_the_librarys_times_one_factor() {
         (values(&csv), notes)
     };
     let (by_ellipsoid, notes) = grid(&[]);
-    assert!(notes.contains("heights by normal gravity of GRS80 (the library's times one factor a row); the margin is proved"), "{notes}");
+    assert!(notes.contains("heights are the library's times one factor a row, (GM/r²)/γ with γ the normal gravity of GRS80"), "{notes}");
+    assert!(notes.contains("the margin is proved of the library's, and geoid average has no such factor"), "{notes}");
     assert_eq!(by_ellipsoid, grid(&["--gamma", "ellipsoid"]).0);
     let (by_sphere, notes) = grid(&["--gamma", "sphere"]);
     assert!(!notes.contains("factor"), "{notes}");
@@ -122,6 +123,22 @@ fn heights_by_the_ellipsoid_are_the_librarys_times_one_factor() {
         assert_eq!(rest.grid(&Functional::GeoidHeight, r, &[latitude], &[longitude]), [*sphere]);
         let potential = rest.grid(&Functional::Potential, r, &[latitude], &[longitude])[0];
         assert!((ellipsoid - potential / GRS80.surface_gravity(geodetic)).abs() < 1e-12);
+    }
+}
+
+#[test]
+fn heights_by_the_ellipsoid_are_those_of_geographiclib() {
+    // GeographicLib 2.1.2's `Gravity -H -p 12` of the sample field of degree 96, as a model of its own with the ellipsoid GRS80.
+    let known = [(45, -180, 52.472311749325), (45, 60, 31.310477327919), (0, 120, -65.918905230330), (-45, -60, 1.470683657518)];
+    let folder = Folder::new();
+    let [model, csv] = ["m.model", "g.csv"].map(|name| folder.file(name));
+    geoid(&["sample", &model]).unwrap();
+    geoid(&["grid", &model, "--out", &csv, "--step", "15", "--ellipsoid", "grs80"]).unwrap();
+    let text = fs::read_to_string(&csv).unwrap();
+    for (lat, lon, height) in known {
+        let start = format!("{lat},{lon},");
+        let value: f64 = text.lines().find_map(|line| line.strip_prefix(&start)).unwrap().parse().unwrap();
+        assert!((value - height).abs() < 1e-10, "{lat} {lon}: {value}");
     }
 }
 
@@ -141,7 +158,7 @@ fn the_zero_degree_and_the_geoids_potential_are_told() {
     // (GM - GM0)/(rγ) at 45 degrees: r = 6367489.54 m, γ = 9.806199203 m/s².
     assert!((kept - dropped + 5.85e7 / (6_367_489.54 * 9.806199203)).abs() < 1e-8, "{}", kept - dropped);
     let (raised, notes) = grid(&["--w0", "62636853.4"]);
-    assert!(notes.contains("W0 62636853.4 against U0 62636860.850 of GRS80"), "{notes}");
+    assert!(notes.contains("W0 62636853.4 against U0 62636860.850 of GRS80: (W0 - U0)/γ is taken off every height"), "{notes}");
     assert!((raised - kept - 0.759_728).abs() < 1e-6, "{}", raised - kept);
     for (options, expected) in [
         (&["--w0", "62636853.4", "--normal", "none"][..], "--w0 needs a normal field"),
@@ -166,11 +183,13 @@ fn maps_name_their_gravity_and_their_latitudes() {
         String::from_utf8_lossy(&fs::read(&png).unwrap()).into_owned()
     };
     let sphere = description(&[]);
-    assert!(sphere.contains("m.model, to degree 4; heights by GM/r"));
-    assert!(sphere.contains("less the normal field GRS80, on the sphere r = 6378137 m (geocentric latitudes)"));
+    assert!(
+        sphere.contains("m.model, to degree 4, less the normal field GRS80; sphere r = 6378137 m (geocentric latitudes), heights by GM/r")
+    );
     let ellipsoid = description(&["--ellipsoid", "wgs84", "--zero-degree", "drop"]);
-    assert!(ellipsoid.contains("heights by normal gravity of WGS84 (the library's times one factor a row)"));
-    assert!(ellipsoid.contains("less the normal field WGS84 and degree 0, on the ellipsoid WGS84 (geodetic latitudes)"));
+    assert!(
+        ellipsoid.contains("to degree 4, less the normal field WGS84 and degree 0; ellipsoid WGS84 (geodetic latitudes), heights by its")
+    );
     assert!(!description(&["--functional", "gravity-anomaly"]).contains("heights by"));
 }
 

@@ -147,7 +147,7 @@ impl Task {
         if let Some(heights) = heights {
             heights.tell(arguments, &field)?;
         }
-        let lines = [source(arguments.operand(0), &field, heights), taken(reduction, surface)];
+        let lines = [source(arguments.operand(0), &field, reduction, heights), place(surface, heights)];
         Ok(Task { quantity, nodes, surface, field, love, heights, lines })
     }
 
@@ -209,17 +209,19 @@ fn picture(task: &Task, mut values: Vec<f64>, title: &str) -> Result<Vec<u8>, Er
     Ok(png::encode(&image, &[("Title", title), ("Description", &description), ("Software", "geoid")]))
 }
 
-fn source(path: &Path, field: &Coefficients, heights: Option<Heights>) -> String {
+/// What was evaluated: the first line of a map's subtitle.
+fn source(path: &Path, field: &Coefficients, reduction: Reduction, heights: Option<Heights>) -> String {
     let name = path.file_name().unwrap_or_default().to_string_lossy();
-    let heights = heights.map_or(String::new(), |heights| format!("; {}", heights.line()));
-    format!("{name}, to degree {}{heights}", field.max_degree())
+    let datum = heights.and_then(|heights| heights.datum_line()).map_or(String::new(), |line| format!("; {line}"));
+    format!("{name}, to degree {}, {}{datum}", field.max_degree(), reduction.line())
 }
 
-fn taken(reduction: Reduction, surface: Surface) -> String {
-    let what = reduction.line();
+/// Where, and by what gravity: the second line.
+fn place(surface: Surface, heights: Option<Heights>) -> String {
+    let gamma = heights.map_or(String::new(), |heights| format!(", {}", heights.gamma_line()));
     match surface {
-        Surface::Sphere(radius) => format!("{what}, on the sphere r = {radius} m (geocentric latitudes)"),
-        Surface::Ellipsoid(ellipsoid) => format!("{what}, on the ellipsoid {} (geodetic latitudes)", ellipsoid.name),
+        Surface::Sphere(radius) => format!("sphere r = {radius} m (geocentric latitudes){gamma}"),
+        Surface::Ellipsoid(ellipsoid) => format!("ellipsoid {} (geodetic latitudes){gamma}", ellipsoid.name),
     }
 }
 
