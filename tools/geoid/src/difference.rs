@@ -2,10 +2,11 @@
 
 use std::path::Path;
 
-use geopotential::{Coefficients, MAX_DEGREE, TideSystem};
+use geopotential::{Coefficients, MAX_DEGREE, RHO_EARTH, RHO_WATER, TideSystem};
 
 use crate::arguments::{Arguments, Opt};
 use crate::error::Error;
+use crate::output::note;
 
 pub const DEGREE: Opt = Opt {
     name: "--degree",
@@ -92,8 +93,23 @@ impl Matching {
                 rest.try_set(n, m, c, s)?;
             }
         }
+        if first.field.gm != second.field.gm {
+            tell_masses(&rest)?;
+        }
         Ok(rest)
     }
+}
+
+/// Two centres' GM are two conventions, but their difference looks like a mass of its own, spread over the globe.
+fn tell_masses(rest: &Coefficients) -> Result<(), Error> {
+    let first = rest.try_c(0, 0)?;
+    let water = 1e3 * first * rest.radius * RHO_EARTH / (3.0 * RHO_WATER);
+    if first != 0.0 {
+        note(&format!(
+            "the fields' GM differ, and C(0,0) of their difference is {first:e}: {water:.3} mm of water everywhere (--zero-degree drop leaves it out)"
+        ));
+    }
+    Ok(())
 }
 
 /// A tide system in words.

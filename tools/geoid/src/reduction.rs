@@ -35,6 +35,11 @@ impl Wish {
         };
         Ok(Wish { normal, drop_zero: drop_zero(arguments)? })
     }
+
+    /// A field of which no normal field is taken off, with or without its degree 0.
+    pub fn degree_zero_of(&self, field: Coefficients) -> Result<Coefficients, Error> {
+        Reduction { normal: None, drop_zero: self.drop_zero }.of(&field)
+    }
 }
 
 /// What is taken off.
@@ -82,6 +87,7 @@ fn by_rule(quantity: Quantity, field: &Coefficients, ellipsoid: Option<NormalGra
         Ok(None)
     };
     if quantity.is_water() {
+        tell_whole(field)?;
         return none("that is the rule of water heights");
     }
     if body::is_difference(field)? {
@@ -93,6 +99,17 @@ fn by_rule(quantity: Quantity, field: &Coefficients, ellipsoid: Option<NormalGra
     let normal = ellipsoid.unwrap_or(GRS80);
     note(&format!("the normal field {} is taken off (--normal says otherwise)", normal.name));
     Ok(Some(normal))
+}
+
+/// The water height of a whole field is that of the whole Earth turned to water: a change is wanted.
+fn tell_whole(field: &Coefficients) -> Result<(), Error> {
+    if !body::is_difference(field)? {
+        note(&format!(
+            "C(0,0) is {}: the water height of a whole field is no change of water; expected a difference (geoid subtract, average --minus)",
+            field.try_c(0, 0)?
+        ));
+    }
+    Ok(())
 }
 
 fn drop_zero(arguments: &Arguments) -> Result<bool, Error> {

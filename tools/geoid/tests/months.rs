@@ -3,6 +3,7 @@
 mod support;
 
 use std::fs;
+use std::process::Command;
 
 use geopotential::slepian::basin_average;
 use geopotential::{Coefficients, Functional, TideSystem, model_file};
@@ -75,6 +76,26 @@ fn one_field_less_another_has_the_first_ones_constants() {
             assert!((rest.c(n, m) - (first.c(n, m) - second.c(n, m))).abs() < 1e-15);
         }
     }
+}
+
+#[test]
+fn two_centres_masses_are_told() {
+    let folder = Folder::new();
+    let [a, b, out] = ["a.model", "b.model", "d.model"].map(|name| folder.file(name));
+    let (first, mut second) = (month(4, 2), month(4, 2));
+    // The same coefficients with another GM: its own C(0,0) is 1 too.
+    second.gm = 3.986004418e14;
+    write(&a, &first);
+    write(&b, &second);
+    let run = |options: &[&str]| {
+        let words = [&["subtract", &a, &b, "--out", &out], options].concat();
+        let output = Command::new(env!("CARGO_BIN_EXE_geoid")).args(words).output().unwrap();
+        (read(&out).c(0, 0), String::from_utf8(output.stderr).unwrap())
+    };
+    let (kept, notes) = run(&[]);
+    assert!((kept + 7.526e-10).abs() < 1e-12);
+    assert!(notes.contains("the fields' GM differ, and C(0,0) of their difference is -7.5") && notes.contains("-8.8"), "{notes}");
+    assert_eq!(run(&["--zero-degree", "drop"]).0, 0.0);
 }
 
 #[test]

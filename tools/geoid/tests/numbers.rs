@@ -81,7 +81,10 @@ fn what_is_taken_off_is_told() {
         };
         let taken = "geoid: note: the normal field GRS80 is taken off (--normal says otherwise)\n";
         assert!(notes(&month, &[]).starts_with(taken));
-        assert!(notes(&month, &water).contains("no normal field is taken off: that is the rule of water heights"));
+        let whole = notes(&month, &water);
+        assert!(whole.contains("no normal field is taken off: that is the rule of water heights"));
+        assert!(whole.contains("C(0,0) is 1: the water height of a whole field is no change of water; expected a difference"));
+        assert!(!notes(&change, &water).contains("whole field"));
         assert!(notes(&change, &[]).contains("no normal field is taken off: C(0,0) is 0, as of a difference of fields"));
         assert!(notes(&change, &["--normal", "grs80"]).contains("a whole normal field is taken off it"));
         assert!(!notes(&month, &["--normal", "none"]).contains("taken off"));
