@@ -203,10 +203,11 @@ fn run_side_by_side(threads: usize, work: &(impl Fn() -> Result<(), Error> + Syn
 fn pieces<'a>(groups: &'a [(f64, Vec<(usize, f64)>)], longitudes: &'a [f64], max_degree: usize, threads: usize) -> Vec<Piece<'a>> {
     let (largest, longitudes_a_call) = call_size(max_degree, longitudes.len());
     let mut pieces = Vec::new();
-    for (radius, rows) in groups {
-        let rows_a_call = rows.len().div_ceil(PIECES_A_THREAD * threads.max(1)).max(FEWEST_ROWS).min(largest);
-        for rows in rows.chunks(rows_a_call) {
-            for (block, longitudes) in longitudes.chunks(longitudes_a_call).enumerate() {
+    // The longitudes change last: a thread keeps their table from one call to the next.
+    for (block, longitudes) in longitudes.chunks(longitudes_a_call).enumerate() {
+        for (radius, rows) in groups {
+            let rows_a_call = rows.len().div_ceil(PIECES_A_THREAD * threads.max(1)).max(FEWEST_ROWS).min(largest);
+            for rows in rows.chunks(rows_a_call) {
                 pieces.push(Piece { radius: *radius, rows, column: block * longitudes_a_call, longitudes });
             }
         }
