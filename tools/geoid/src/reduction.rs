@@ -12,7 +12,7 @@ use crate::quantity::Quantity;
 pub const NORMAL: Opt = Opt {
     name: "--normal",
     value: "grs80|wgs84|none",
-    help: "the normal field to take off; default none for water heights, where C(0,0) is about 0\n(a difference of fields) and for another body, else that of --ellipsoid, else grs80",
+    help: "the normal field to take off; default none for water heights, where C(0,0) is about 0\n(a difference of fields) and for another body, else that of --ellipsoid where it is given, else grs80",
 };
 
 pub const ZERO_DEGREE: Opt =

@@ -91,6 +91,8 @@ fn radii_have_the_librarys_bits() {
         let [north, east, up] = at.gravity_neu(r, lat, 7.292115e-5);
         assert_eq!(row[..], [at.v, north, east, up, at.v / (field.gm / (r * r))]);
     }
+    let by_gravity = numbers(&geoid(&["points", &model, "--at", &list, "--normal", "none", "--gamma", "ellipsoid"]).unwrap(), 5);
+    assert!((by_gravity[0][4] / rows[0][4] - 1.0).abs() < 3e-3 && by_gravity[0] != rows[0] && by_gravity[0][..4] == rows[0][..4]);
 }
 
 #[test]

@@ -34,7 +34,11 @@ pub const COMMAND: Command = Command {
         Opt { name: "--ellipsoid", value: "grs80|wgs84", help: "the ellipsoid of the heights and of gamma; default grs80" },
         NORMAL,
         ZERO_DEGREE,
-        GAMMA,
+        Opt {
+            name: GAMMA.name,
+            value: GAMMA.value,
+            help: "what geoid heights divide the potential by: GM/r^2, or normal gravity at the point; default\nellipsoid for heights, sphere for radii",
+        },
         W0,
         Opt {
             name: "--omega",
@@ -50,8 +54,7 @@ pub const COMMAND: Command = Command {
               gravity north, east and up, which is V's gradient and the centrifugal part (m/s^2), up being along the\n\
               ellipsoid's normal for heights and along the radius for radii; and the geoid height T/gamma (m), T the\n\
               potential less the normal field's at the point itself: off the ellipsoid that is a height anomaly. V, its\n\
-              derivatives and T are the library's; gamma ellipsoid (default for heights) is normal gravity at the point,\n\
-              gamma sphere (default for radii) GM/r^2.\n",
+              derivatives and T are the library's.\n",
     run,
 };
 
@@ -72,23 +75,24 @@ fn run(arguments: &Arguments) -> Result<String, Error> {
     }
     let omega = omega.map_or_else(|| rotation(&field), Ok)?;
     let at = partials(&field, &places)?;
-    let own = (list.vertical == Vertical::Height && body::is_earth(&field)).then_some(ellipsoid);
-    let heights = heights(arguments, wish, &field, &places, (ellipsoid, own))?;
+    let by_default = list.vertical == Vertical::Height && body::is_earth(&field);
+    let heights = heights(arguments, wish, &field, &places, ellipsoid, by_default)?;
     let rows = places.iter().zip(&at).zip(heights).map(|((place, at), height)| row(place, at, omega, height));
     answer(arguments.path("--out"), &list, rows)
 }
 
-/// The geoid heights at the places; the second ellipsoid is the one whose gravity divides by default.
+/// The geoid heights at the places, by an ellipsoid's normal gravity if an option says so or none does and it is the default.
 fn heights(
     arguments: &Arguments,
     wish: Wish,
     field: &Coefficients,
     places: &[Place],
-    (ellipsoid, own): (NormalGravity, Option<NormalGravity>),
+    ellipsoid: NormalGravity,
+    by_default: bool,
 ) -> Result<Vec<f64>, Error> {
-    let quantity = Quantity::named(None)?;
-    let reduction = Reduction::decide(wish, quantity, field, Some(ellipsoid))?;
+    let reduction = Reduction::decide(wish, Quantity::named(None)?, field, Some(ellipsoid))?;
     let rest = reduction.of(field)?;
+    let own = (by_default || arguments.has(GAMMA.name)).then_some(ellipsoid);
     let heights = Heights::of_height(arguments, own, reduction.normal)?;
     heights.tell_points(arguments, &rest)?;
     let gravities = gravities(places, heights.gamma, field.gm)?;
