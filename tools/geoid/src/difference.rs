@@ -75,9 +75,11 @@ impl Matching {
 
     /// A field of which nothing is subtracted, cut where a degree is given.
     pub fn alone(&self, named: Named) -> Result<Coefficients, Error> {
+        let degree = named.field.max_degree();
         match self.degree {
-            None => Ok(named.field.clone()),
-            Some(_) => Ok(named.field.truncated(self.degree(named, named)?)),
+            None | Some(Cut::Smaller) => Ok(named.field.clone()),
+            Some(Cut::To(cut)) if cut <= degree => Ok(named.field.truncated(cut)),
+            Some(Cut::To(cut)) => Err(Error::failure(format!("--degree is {cut}, but {} has degree {degree}", named.path.display()))),
         }
     }
 

@@ -2,7 +2,7 @@
 //!
 //! The weights obey `W(n−1) = W(n+1) + (2n+1)/b · W(n)` with `b = ln 2/(1 − cos(r/a))`. Run upwards from the first
 //! two, as Wahr's Eq. 34 is written, this loses its digits: for 300 km the weight of degree 120 is right to a
-//! millionth, that of degree 152 to nothing. Run downwards, as ratios `W(n)/W(n−1)`, it is stable: that is what
+//! millionth, that of degree 152 has no right digit. Run downwards, as ratios `W(n)/W(n−1)`, it is stable: that is what
 //! is used here, at every degree.
 
 use std::f64::consts::LN_2;
@@ -54,6 +54,25 @@ mod tests {
             for (n, expected) in entries {
                 assert!((weights[n] / expected - 1.0).abs() < 1e-12, "{radius} m, degree {n}: {}", weights[n]);
             }
+        }
+    }
+
+    /// Wahr's Eq. 34 as it is written.
+    fn upward(radius: f64, max_degree: usize) -> Vec<f64> {
+        let b = LN_2 / (1.0 - (radius / MEAN_RADIUS).cos());
+        let mut weights = vec![1.0, (1.0 + (-2.0 * b).exp()) / (1.0 - (-2.0 * b).exp()) - 1.0 / b];
+        for n in 1..max_degree {
+            weights.push(weights[n - 1] - (2 * n + 1) as f64 / b * weights[n]);
+        }
+        weights
+    }
+
+    #[test]
+    fn the_upward_recursion_loses_its_digits() {
+        for (radius, millionth, none) in [(300e3, 120, 152), (500e3, 73, 92)] {
+            let (stable, lost) = (weights(radius, 200), upward(radius, 200));
+            let first = |bound: f64| (0..=200).find(|&n| (lost[n] / stable[n] - 1.0).abs() > bound).unwrap();
+            assert!(first(1e-6).abs_diff(millionth) <= 3 && first(1.0).abs_diff(none) <= 3, "{} {}", first(1e-6), first(1.0));
         }
     }
 

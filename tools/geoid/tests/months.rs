@@ -123,6 +123,17 @@ fn months_that_do_not_match_are_refused_unless_told() {
     assert_eq!(geoid(&["subtract", &a, &b]).unwrap_err(), "--out D is missing; see geoid subtract --help");
 }
 
+/// One field less another of the same degree.
+fn difference(first: &Coefficients, second: &Coefficients) -> Coefficients {
+    let mut change = first.clone();
+    for n in 0..=first.max_degree() {
+        for m in 0..=n {
+            change.set(n, m, first.c(n, m) - second.c(n, m), first.s(n, m) - second.s(n, m));
+        }
+    }
+    change
+}
+
 #[test]
 fn many_basins_make_one_table() {
     let folder = Folder::new();
@@ -138,13 +149,7 @@ fn many_basins_make_one_table() {
     let [amazon, ob, murray] = paths.each_ref().map(String::as_str);
     let options = ["--minus", &b, "--functional", "water-height", "--love", &numbers];
     let text = geoid(&[&["average", &a, amazon, ob, murray], &options[..]].concat()).unwrap();
-    let mut change = first.clone();
-    for n in 0..=40 {
-        for m in 0..=n {
-            change.set(n, m, first.c(n, m) - second.c(n, m), first.s(n, m) - second.s(n, m));
-        }
-    }
-    let love = love();
+    let (change, love) = (difference(&first, &second), love());
     let mean = |kernel| 1e3 * basin_average(&change, kernel, &Functional::WaterHeight { love: &love }, RADIUS);
     let expected = format!(
         "name,average (mm of water),share of the sphere,degree used\nAmazon,{:?},0.0115,40\nOb,{:?},0.0058,30\n\"Murray, Darling\",{:?},0.0021,40\n",
@@ -176,6 +181,7 @@ fn tables_of_other_functionals_are_in_their_si_unit() {
     assert!(text.starts_with("name,average (m/s²),share of the sphere,degree used\nk1,"), "{text}");
     assert!(text.lines().skip(1).all(|line| line.ends_with(",9")), "{text}");
     assert!(geoid(&["average", &a]).unwrap_err().starts_with("KERNEL is missing"));
+    assert_eq!(geoid(&["average", &a, &one, "--degree", "13"]).unwrap_err(), format!("--degree is 13, but {a} has degree 12"));
     // A kernel that is wrong is named, and no table is written.
     let out = folder.file("t.csv");
     assert!(geoid(&["average", &a, &one, &a, "--out", &out]).unwrap_err().starts_with(&format!("{a}: its GM is")));

@@ -6,12 +6,11 @@ use std::path::{Path, PathBuf};
 use geopotential::Coefficients;
 use geopotential::slepian::try_basin_average;
 
-use super::{Command, FUNCTIONAL, LOVE, field};
+use super::{Command, FUNCTIONAL, LOVE, field, kernel};
 use crate::arguments::{Arguments, Opt};
-use crate::body::{ANY_BODY, check_kernel, check_radius};
+use crate::body::{ANY_BODY, check_radius};
 use crate::difference::{DEGREE, Matching, Named, TIDE_AS_IS};
 use crate::error::Error;
-use crate::field_file::load;
 use crate::output::{note, write_whole};
 use crate::quantity::{Love, Quantity};
 use crate::reduction::{NORMAL, Reduction, Wish, ZERO_DEGREE};
@@ -79,8 +78,7 @@ fn minuend(arguments: &Arguments, matching: Matching) -> Result<Coefficients, Er
 }
 
 fn basin(path: &Path, field: &Coefficients, quantity: Quantity, love: &Love, radius: f64) -> Result<Basin, Error> {
-    let kernel = load(path)?;
-    check_kernel(path, &kernel)?;
+    let kernel = kernel(path)?;
     let degree = field.max_degree().min(kernel.max_degree());
     love.check(degree)?;
     let mean = try_basin_average(field, &kernel, &(quantity.functional)(&love.numbers), radius)?;

@@ -140,6 +140,13 @@ fn field_or_kernel(arguments: &Arguments, path: &Path) -> Result<Coefficients, E
     Ok(field)
 }
 
+/// A kernel from a file, checked.
+fn kernel(path: &Path) -> Result<Coefficients, Error> {
+    let kernel = load(path)?;
+    body::check_kernel(path, &kernel)?;
+    Ok(kernel)
+}
+
 /// The option that names a functional, with its values.
 const FUNCTIONAL: Opt = Opt {
     name: "--functional",
