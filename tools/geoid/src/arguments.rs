@@ -77,20 +77,27 @@ impl Arguments {
         }
     }
 
-    /// Check that there are just the operands that a command names.
+    /// Check that there are just the operands that a command names; a last name with `...` behind it
+    /// stands for one operand or more.
     pub fn expect_operands(&self, names: &[&str]) -> Result<(), Error> {
         if let Some(missing) = names.get(self.operands.len()) {
-            return Err(Error::usage(format!("{missing} is missing")));
+            return Err(Error::usage(format!("{} is missing", missing.trim_end_matches("..."))));
         }
+        let open = names.last().is_some_and(|last| last.ends_with("..."));
         match self.operands.get(names.len()) {
-            Some(extra) => Err(Error::usage(format!("unexpected word '{}'", extra.to_string_lossy()))),
-            None => Ok(()),
+            Some(extra) if !open => Err(Error::usage(format!("unexpected word '{}'", extra.to_string_lossy()))),
+            _ => Ok(()),
         }
     }
 
     /// The operand at a place that [`expect_operands`](Self::expect_operands) has checked.
     pub fn operand(&self, place: usize) -> &Path {
         Path::new(&self.operands[place])
+    }
+
+    /// The operands from such a place to the last.
+    pub fn operands_from(&self, place: usize) -> impl ExactSizeIterator<Item = &Path> {
+        self.operands[place..].iter().map(Path::new)
     }
 
     /// Whether an option is given.

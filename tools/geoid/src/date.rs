@@ -1,4 +1,4 @@
-//! Dates, for the epochs of fields that change with time.
+//! Dates: the epochs of fields that change with time, and the times that monthly solutions are of.
 
 use std::fmt;
 
@@ -6,6 +6,9 @@ use std::fmt;
 const YEAR: f64 = 365.25;
 /// The years that a date may have: a number outside is a mistake, no epoch of a gravity field.
 const YEARS: std::ops::RangeInclusive<i64> = 1800..=2200;
+
+/// The modified Julian date of 2000-01-01.
+const MJD_2000: f64 = 51_544.0;
 
 /// A moment, by its days since 2000-01-01 at 0 h.
 #[derive(Clone, Copy, Debug, PartialEq, PartialOrd)]
@@ -34,6 +37,30 @@ impl Date {
             (Some(date), Some(minutes)) => Ok(Date { days: date.days + minutes / 1440.0 }),
             _ => Err(format!("'{text}' is no date; expected yyyymmdd or yyyymmdd.hhmm")),
         }
+    }
+
+    /// The first day of a month, `YYYY-MM`, and that of the next.
+    pub fn month(text: &str) -> Option<(Date, Date)> {
+        let (year, month) = text.split_once('-')?;
+        let (year, month) = (whole(year, 4)?, whole(month, 2)?);
+        let first = civil(Some(year), Some(month), Some(1))?;
+        Some((first, Date { days: first.days + month_length(year, month) as f64 }))
+    }
+
+    /// The date of a modified Julian date.
+    pub fn of_mjd(mjd: f64) -> Result<Date, String> {
+        let days = mjd - MJD_2000;
+        let reach = day_number(*YEARS.start(), 1, 1) as f64..day_number(YEARS.end() + 1, 1, 1) as f64;
+        if reach.contains(&days) {
+            Ok(Date { days })
+        } else {
+            Err(format!("{mjd} is no modified Julian date of a day in the years {YEARS:?}"))
+        }
+    }
+
+    /// The moment half way to another.
+    pub fn half_way_to(&self, other: Date) -> Date {
+        Date { days: (self.days + other.days) / 2.0 }
     }
 
     /// Years of 365.25 days from another date to this one.
@@ -140,6 +167,26 @@ mod tests {
             assert_eq!(Date::parse(text).unwrap().to_string(), text);
         }
         assert_eq!(Date::compact("19850109.1751").unwrap().to_string(), "1985-01-09T17:51");
+    }
+
+    #[test]
+    fn days_have_their_modified_julian_dates() {
+        for (mjd, text) in [(40_587.0, "1970-01-01"), (51_544.0, "2000-01-01"), (52_368.0, "2002-04-04"), (54_557.5, "2008-04-01T12:00")] {
+            assert_eq!(Date::of_mjd(mjd).unwrap().to_string(), text);
+        }
+        for wrong in [-1e5, 1e300, f64::NAN, 137_000.0 + 51_544.0] {
+            assert!(Date::of_mjd(wrong).is_err(), "{wrong}");
+        }
+    }
+
+    #[test]
+    fn months_end_where_the_next_begins() {
+        let month = |text| Date::month(text).map(|(first, next)| format!("{first} {next}"));
+        assert_eq!(month("2008-02").as_deref(), Some("2008-02-01 2008-03-01"));
+        assert_eq!(month("2011-12").as_deref(), Some("2011-12-01 2012-01-01"));
+        for wrong in ["2008", "2008-4", "2008-13", "08-04", "2008-04-01", "-", ""] {
+            assert_eq!(month(wrong), None, "{wrong}");
+        }
     }
 
     #[test]

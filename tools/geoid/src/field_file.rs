@@ -45,6 +45,8 @@ pub struct FieldFile {
     pub name: Option<String>,
     /// The time that the field is of, where it is told. A model file has no place for it.
     pub time: Option<String>,
+    /// The days of a monthly solution: the first, and the one behind the last.
+    pub span: Option<(Date, Date)>,
     /// What was taken for granted where the file is silent.
     pub notes: Vec<String>,
 }
@@ -56,7 +58,7 @@ pub fn read(path: &Path, choices: &Choices) -> Result<FieldFile, Error> {
         None => Err(Error::in_file(path, format!("the file is empty; {}", foreign::EXPECTED))),
         Some(&MODEL_FILE) => {
             let field = model_file::read(&bytes).map_err(|refusal| Error::in_file(path, refusal))?;
-            Ok(FieldFile { field, name: None, time: None, notes: choices.unused_epoch().into_iter().collect() })
+            Ok(FieldFile { field, name: None, time: None, span: None, notes: choices.unused_epoch().into_iter().collect() })
         }
         Some(_) => read_text(path, &bytes, choices),
     }

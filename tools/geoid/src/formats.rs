@@ -40,7 +40,7 @@ pub fn esri(nodes: &Nodes, values: &[f64], out: &mut dyn Write) -> io::Result<()
 pub fn aux_file(path: &Path, about: &Provenance) -> (PathBuf, String) {
     let mut name = OsString::from(path);
     name.push(".aux.xml");
-    let items = [("title", &about.title), ("source", &about.source), ("comment", &about.taken), ("history", &about.history)];
+    let items = [("title", &about.title), ("source", &about.source), ("comment", &about.comment()), ("history", &about.history)];
     let items: String = items.map(|(key, text)| format!("    <MDI key=\"{key}\">{}</MDI>\n", escaped(text))).concat();
     let text = format!(
         "<PAMDataset>\n  <SRS dataAxisToSRSAxisMapping=\"2,1\">{}</SRS>\n  <Metadata>\n{items}  </Metadata>\n  \

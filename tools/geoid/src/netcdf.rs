@@ -130,7 +130,7 @@ fn global(about: &Provenance) -> Vec<Attribute> {
         text("Conventions", "CF-1.8"),
         text("title", &about.title),
         text("source", &about.source),
-        text("comment", &about.taken),
+        text("comment", about.comment()),
         text("history", &about.history),
     ]
 }
@@ -184,6 +184,7 @@ mod tests {
     use super::*;
     use crate::grid::Region;
     use crate::quantity::Quantity;
+    use crate::reduction::Reduction;
 
     /// The head of a square grid of so many nodes a side.
     fn head_of(nodes: usize) -> Vec<u8> {
@@ -193,10 +194,10 @@ mod tests {
             quantity: Quantity::named(None).unwrap(),
             title: "t".into(),
             source: "s".into(),
-            taken: "c".into(),
-            history: "h".into(),
+            reduction: Reduction { normal: None, drop_zero: false },
+            heights: None,
             surface: Surface::Sphere(1.0),
-            normal: None,
+            history: "h".into(),
         };
         head(&Nodes { region, step: 1.0, latitudes: axis.clone(), longitudes: axis }, &about)
     }

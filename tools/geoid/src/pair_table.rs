@@ -2,11 +2,10 @@
 
 use geopotential::Coefficients;
 
+use crate::body::is_earth;
 use crate::text::Fault;
 
-/// The Earth's gravitational constant and the first even zonal, and how far a model of the Earth may
-/// be from them.
-const EARTH_GM: f64 = 3.986004415e14;
+/// The Earth's first even zonal, and how far a model of the Earth may be from it.
 const EARTH_C20: f64 = -4.84165e-4;
 const EARTH_SHARE: f64 = 0.01;
 /// In the place of a line's number: the pair is given by convention.
@@ -67,9 +66,8 @@ impl PairTable {
 
     /// Whether the field is a model of the whole Earth: no difference of two, no kernel, no other body.
     fn is_the_earth(&self) -> bool {
-        let near = |value: f64, expected: f64| (value - expected).abs() <= EARTH_SHARE * expected.abs();
-        let zonal = self.field.try_c(2, 0).is_ok_and(|c20| near(c20, EARTH_C20));
-        zonal && near(self.field.gm, EARTH_GM)
+        let zonal = self.field.try_c(2, 0).is_ok_and(|c20| (c20 / EARTH_C20 - 1.0).abs() <= EARTH_SHARE);
+        zonal && is_earth(&self.field)
     }
 
     /// Degree 0 is GM's own and degree 1 is nothing about the centre of mass; where a model leaves them

@@ -10,7 +10,7 @@ use support::{Folder, geoid};
 #[test]
 fn help_names_everything() {
     let help = geoid(&["--help"]).unwrap();
-    for command in ["convert", "info", "grid", "average", "caps", "sample"] {
+    for command in ["convert", "info", "grid", "points", "average", "subtract", "replace", "smooth", "caps", "sample"] {
         assert!(help.contains(&format!("\n  {command} ")), "{command}");
         assert!(geoid(&[command, "--help"]).unwrap().starts_with(&format!("usage: geoid {command}")));
     }
@@ -22,8 +22,14 @@ fn help_names_everything() {
 fn wrong_words_are_named() {
     let cases: [(&[&str], &str); 20] = [
         (&[], "no command; see geoid --help"),
-        (&["gird"], "unknown command 'gird'; expected one of convert, info, grid, average, caps, sample, --help, --version"),
-        (&["--wrong"], "unknown option '--wrong'; expected one of convert, info, grid, average, caps, sample, --help, --version"),
+        (
+            &["gird"],
+            "unknown command 'gird'; expected one of convert, info, grid, points, average, subtract, replace, smooth, caps, sample, --help, --version",
+        ),
+        (
+            &["--wrong"],
+            "unknown option '--wrong'; expected one of convert, info, grid, points, average, subtract, replace, smooth, caps, sample, --help, --version",
+        ),
         (&["info"], "FILE is missing; see geoid info --help"),
         (&["info", "a", "b"], "unexpected word 'b'; see geoid info --help"),
         (&["info", "a", "--colour"], "unknown option '--colour'; see geoid info --help"),
@@ -142,13 +148,14 @@ fn averages_over_the_sphere_and_a_cap() {
     fs::write(&field, format!("{head}gfc 0 0 0.5 0\ngfc 1 0 0.25 0\ngfc 1 1 0 0\n")).unwrap();
     fs::write(&kernel, format!("{head}gfc 0 0 0.5 0\ngfc 1 0 0.5 0\ngfc 1 1 0 0\n")).unwrap();
     // r(0.5·0.5 + 0.25·0.5)/0.5 with r = 2.
-    assert_eq!(geoid(&["average", &field, &kernel]).unwrap(), "1.5\n");
-    assert_eq!(geoid(&["average", &field, &kernel, "--functional", "potential", "--radius", "4"]).unwrap(), "1.25\n");
+    let average = |options: &[&str]| geoid(&[&["average", &field, &kernel, "--any-body"][..], options].concat());
+    assert_eq!(average(&[]).unwrap(), "1.5\n");
+    assert_eq!(average(&["--functional", "potential", "--radius", "4"]).unwrap(), "1.25\n");
     fs::write(&love, "0 0.0\n").unwrap();
-    let short = geoid(&["average", &field, &kernel, "--functional", "water-height", "--love", &love]).unwrap_err();
-    assert!(short.starts_with("refused (5 LOVE)"), "{short}");
+    let short = average(&["--functional", "water-height", "--love", &love]).unwrap_err();
+    assert_eq!(short, format!("refused (5 LOVE): {love} has 1 load Love numbers; degree 1 needs 2"));
     fs::write(&love, "0 0.0\n1 0.027\n").unwrap();
-    let water: f64 = geoid(&["average", &field, &kernel, "--functional", "water-height", "--love", &love]).unwrap().trim().parse().unwrap();
+    let water: f64 = average(&["--functional", "water-height", "--love", &love]).unwrap().trim().parse().unwrap();
     let factor = |n: f64, k: f64| 2.0 * 5517.0 / 3000.0 * (2.0 * n + 1.0) / (1.0 + k);
     assert!((water - (0.5 * factor(0.0, 0.0) + 0.25 * factor(1.0, 0.027))).abs() < 1e-14);
 }
@@ -203,19 +210,6 @@ fn absent_pairs_are_noted() {
     let done = Command::new(env!("CARGO_BIN_EXE_geoid")).args(["convert", &text, &out, "--absent-as-zero"]).output().unwrap();
     assert!(done.status.success());
     assert_eq!(String::from_utf8(done.stderr).unwrap(), format!("geoid: note: {text}: 5 of 6 pairs are absent and taken as 0\n"));
-}
-
-#[test]
-fn a_difference_of_fields_is_noted() {
-    let folder = Folder::new();
-    let [text, out] = ["x.gfc", "x.csv"].map(|name| folder.file(name));
-    fs::write(&text, "earth_gravity_constant 1\nradius 1\nmax_degree 0\nend_of_head\ngfc 0 0 0 0\n").unwrap();
-    let notes = |options: &[&str]| {
-        let words = [&["grid", &text, "--out", &out, "--step", "90"], options].concat();
-        String::from_utf8(Command::new(env!("CARGO_BIN_EXE_geoid")).args(words).output().unwrap().stderr).unwrap()
-    };
-    assert!(notes(&[]).contains("its C of degree 0 is 0, not about 1; --normal none takes no normal field off"));
-    assert_eq!(notes(&["--normal", "none"]), "");
 }
 
 #[test]

@@ -356,6 +356,50 @@ fn a_month_goes_wherever_a_field_goes() {
 }
 
 #[test]
+fn a_month_is_prepared_as_it_comes() {
+    let folder = Folder::new();
+    let [text, model, other, list, note] = ["month", "month.model", "other.gfc", "list.csv", "TN-14"].map(|name| folder.file(name));
+    let [one, two] = ["one.model", "two.model"].map(|name| folder.file(name));
+    fs::write(&text, month()).unwrap();
+    geoid(&["convert", &text, &model]).unwrap();
+    geoid(&["sample", &other, "--degree", "3"]).unwrap();
+    fs::write(&list, "lat,lon,h\n50,10,0\n").unwrap();
+    // The solution that the month's own days lie in, and one before it.
+    let line = |from: &str, c20: &str, to: &str| format!("{from} 2018.3 {c20} 0.1 0.2 NaN NaN NaN {to} 2018.5\n");
+    fs::write(&note, line("58239.0", "-4.84169E-04", "58270.0") + &line("58270.0", "-4.841692D-04", "58300.0")).unwrap();
+    assert_eq!(geoid(&["points", &text, "--at", &list]).unwrap(), geoid(&["points", &model, "--at", &list]).unwrap());
+    let same = |before: &[&str], after: &[&str]| {
+        let run = |field: &str, out: &str| {
+            geoid(&[&[before[0], field], &before[1..], &[out], after].concat()).unwrap();
+            fs::read(out).unwrap()
+        };
+        assert_eq!(run(&text, &one), run(&model, &two), "{before:?}");
+    };
+    same(&["subtract", &other, "--out"], &["--tide-as-is"]);
+    same(&["smooth"], &["--gauss", "300"]);
+    same(&["convert"], &["--degree", "2", "--gm", "3.986004418e14", "--radius", "6378137"]);
+    same(&["replace"], &["--c20", &note, "--month", "2018-06"]);
+    let answer = geoid(&["replace", &text, &one, "--c20", &note]).unwrap();
+    assert!(answer.contains("solution of 2018-06-01 to 2018-07-01\nC(2,0)  -4.84169276871e-4 -> -4.841692e-4\n"), "{answer}");
+    assert_eq!(fs::read(&one).unwrap(), fs::read(&two).unwrap());
+}
+
+#[test]
+fn an_epoch_goes_into_every_preparation() {
+    let folder = Folder::new();
+    let [text, model, list, out] = ["goco.gfc", "goco.model", "list.csv", "out.model"].map(|name| folder.file(name));
+    fs::write(&text, goco(MOVING)).unwrap();
+    geoid(&["convert", &text, &model, "--epoch", "2012-06-01"]).unwrap();
+    fs::write(&list, "lat,lon,h\n50,10,0\n").unwrap();
+    let at = |words: &[&str]| geoid(&[words, &["--epoch", "2012-06-01"]].concat()).unwrap();
+    assert_eq!(at(&["points", &text, "--at", &list]), geoid(&["points", &model, "--at", &list]).unwrap());
+    at(&["subtract", &text, &model, "--out", &out]);
+    assert_eq!(geoid(&["info", &out, "--all"]).unwrap().matches(" 0.000000e0").count(), 2 * (1 + 2));
+    assert!(geoid(&["smooth", &text, &out, "--gauss", "300"]).unwrap_err().contains("expected --epoch DATE"));
+    at(&["smooth", &text, &out, "--gauss", "300"]);
+}
+
+#[test]
 fn mistakes_in_a_month() {
     let folder = Folder::new();
     let refused = |from: &str, to: &str| {

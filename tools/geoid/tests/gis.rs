@@ -158,7 +158,10 @@ fn netcdf_has_the_names_of_cf() {
     assert_eq!(text(&nc.attributes, "Conventions"), "CF-1.8");
     assert_eq!(text(&nc.attributes, "title"), "Géoïde d'essai");
     assert_eq!(text(&nc.attributes, "source"), "model TEST-2026, file model.gfc, to degree 6");
-    assert!(text(&nc.attributes, "comment").contains("less the normal field WGS84, on the ellipsoid WGS84"));
+    assert_eq!(
+        text(&nc.attributes, "comment"),
+        "less the normal field WGS84, degree 0 kept; ellipsoid WGS84 (geodetic latitudes), heights by its normal gravity"
+    );
     let history = text(&nc.attributes, "history");
     let words = format!("--out {out} --region -10/20/30/50 --step 10 --ellipsoid wgs84 --normal wgs84 --title 'Géoïde d'\\''essai'");
     assert!(history.starts_with("geoid 0.1.0: geoid grid ") && history.ends_with(&words), "{history}");
@@ -189,10 +192,10 @@ fn names_say_no_more_than_the_values_are() {
     assert!(!sphere.variables["geoid_height"].attributes.contains_key("standard_name"));
     assert_eq!(text(&sphere.variables["lat"].attributes, "long_name"), "geocentric latitude");
     assert_eq!(number(&sphere.variables["crs"].attributes, "earth_radius"), 6378136.3);
-    // Nor are those of the field itself, or less another ellipsoid's normal field.
-    for normal in ["none", "wgs84"] {
-        let other = dataset(&grid(&folder, "g.nc", &["--ellipsoid", "grs80", "--normal", normal]));
-        assert!(!other.variables["geoid_height"].attributes.contains_key("standard_name"));
+    // Nor are those of the field itself, less another ellipsoid's normal field, by another gravity or without degree 0.
+    for options in [["--normal", "none"], ["--normal", "wgs84"], ["--gamma", "sphere"], ["--zero-degree", "drop"]] {
+        let other = dataset(&grid(&folder, "g.nc", &[&["--ellipsoid", "grs80"], &options[..]].concat()));
+        assert!(!other.variables["geoid_height"].attributes.contains_key("standard_name"), "{options:?}");
     }
     for (functional, variable, units) in [
         ("potential", "potential", "m2 s-2"),
@@ -203,6 +206,32 @@ fn names_say_no_more_than_the_values_are() {
         let nc = dataset(&grid(&folder, "g.nc", &["--functional", functional, "--ellipsoid", "grs80"]));
         assert_eq!(text(&nc.variables[variable].attributes, "units"), units);
         assert!(!nc.variables[variable].attributes.contains_key("standard_name"));
+    }
+}
+
+#[test]
+fn comments_name_what_was_taken_off_and_how_heights_are_made() {
+    let folder = Folder::new();
+    let comment = |options: &[&str]| text(&dataset(&grid(&folder, "g.nc", options)).attributes, "comment");
+    for (options, expected) in [
+        (&[][..], "less the normal field GRS80, degree 0 kept; sphere r = 6378137 m (geocentric latitudes), heights by GM/r²"),
+        (
+            &["--ellipsoid", "grs80", "--gamma", "sphere", "--zero-degree", "drop"],
+            "less the normal field GRS80 and degree 0; ellipsoid GRS80 (geodetic latitudes), heights by GM/r²",
+        ),
+        (
+            &["--ellipsoid", "grs80", "--w0", "62636853.4"],
+            "less the normal field GRS80, degree 0 kept; W0 62636853.4 against U0 62636860.850 of GRS80; \
+             ellipsoid GRS80 (geodetic latitudes), heights by its normal gravity",
+        ),
+        (
+            &["--functional", "potential", "--normal", "none", "--zero-degree", "drop"],
+            "the field itself without degree 0; sphere r = 6378137 m (geocentric latitudes)",
+        ),
+    ] {
+        assert_eq!(comment(options), expected);
+        let beside = fs::read_to_string(grid(&folder, "g.csv", options) + ".aux.xml").unwrap();
+        assert!(beside.contains(&format!("<MDI key=\"comment\">{expected}</MDI>")), "{beside}");
     }
 }
 

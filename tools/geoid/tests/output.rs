@@ -33,6 +33,9 @@ fn a_grid_says_how_many_values_are_not_finite() {
         let said = geoid(&["grid", &model, "--out", out, "--step", "45"]).unwrap();
         assert_eq!(said, format!("{out}: 5 x 9 values in m; 45 of 45 values are not finite (45 NaN, 0 infinite)\n"));
     }
+    let piece = folder.file("1.rows");
+    let said = geoid(&["grid", &model, "--out", &piece, "--step", "45", "--rows", "1/2"]).unwrap();
+    assert_eq!(said, format!("{piece}: rows 1 to 2 of 5; 18 of 18 values are not finite (18 NaN, 0 infinite)\n"));
     strange_model(&model, f64::INFINITY);
     let said = geoid(&["grid", &model, "--out", &csv, "--step", "45"]).unwrap();
     assert!(said.contains("values are not finite ("), "{said}");

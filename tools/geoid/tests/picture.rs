@@ -232,7 +232,7 @@ fn map_of(region: Region, step: f64, value: impl Fn(f64, f64) -> f64) -> Result<
         .flat_map(|&lat| nodes.longitudes.iter().map(move |&lon| (lat, lon)))
         .map(|(lat, lon)| value(lat, lon))
         .collect();
-    draw(&Map { nodes: &nodes, values: &values, unit: "m", title: "Test", subtitle: ["one", "two"] })
+    draw(&Map { nodes: &nodes, values: &values, unit: "m", title: "Test", subtitle: ["one", "two", "three"] })
 }
 
 #[test]

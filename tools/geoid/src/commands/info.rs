@@ -1,9 +1,11 @@
 //! `geoid info`: what a field is, and how strong it is at each degree.
 
-use geopotential::{Coefficients, TideSystem};
+use geopotential::Coefficients;
 
 use super::{ABSENT_AS_ZERO, Command, EPOCH, FUNCTIONAL, LOVE};
 use crate::arguments::{Arguments, Opt};
+use crate::body::{ANY_BODY, check_either};
+use crate::difference::tide_name;
 use crate::error::Error;
 use crate::field_file::{Choices, FieldFile, pairs, read};
 use crate::plot;
@@ -24,6 +26,7 @@ pub const COMMAND: Command = Command {
         Opt { name: "--all", value: "", help: "every degree in the table, however many there are" },
         ABSENT_AS_ZERO,
         EPOCH,
+        ANY_BODY,
     ],
     details: "Amplitudes are those on the field's own reference sphere; 'to here' is the root of the sum of squares\n\
               from degree 2. Gravity is shown in mGal, gradients in E. The model's name and the time that the field is of\n\
@@ -34,9 +37,12 @@ pub const COMMAND: Command = Command {
 fn run(arguments: &Arguments) -> Result<String, Error> {
     let quantity = Quantity::named(arguments.text("--functional")?)?;
     let love = quantity.love(arguments.path("--love"))?;
-    let file = read(arguments.operand(0), &Choices::of(arguments)?)?;
+    let path = arguments.operand(0);
+    let file = read(path, &Choices::of(arguments)?)?;
     let field = &file.field;
-    let mut amplitudes = field.try_degree_amplitudes(&(quantity.functional)(&love))?;
+    check_either(path, field, arguments.has(ANY_BODY.name))?;
+    love.check(field.max_degree())?;
+    let mut amplitudes = field.try_degree_amplitudes(&(quantity.functional)(&love.numbers))?;
     amplitudes.iter_mut().for_each(|amplitude| *amplitude *= quantity.per_si);
     let shown = degrees(field.max_degree(), arguments.has("--all"));
     Ok(sayings(&file) + &head(field) + &table(&amplitudes, &shown, quantity) + "\n" + &plot::bars(&amplitudes, quantity.unit))
@@ -51,12 +57,7 @@ fn sayings(file: &FieldFile) -> String {
 }
 
 fn head(field: &Coefficients) -> String {
-    let tide = match field.tide_system {
-        TideSystem::TideFree => "tide-free",
-        TideSystem::ZeroTide => "zero tide",
-        TideSystem::MeanTide => "mean tide",
-        TideSystem::Unknown => "not stated",
-    };
+    let tide = tide_name(field.tide_system).unwrap_or("not stated");
     format!(
         "GM           {:e} m³/s²\nradius       {} m\ntide system  {tide}\ndegree       {}\npairs        {}\n\n",
         field.gm,

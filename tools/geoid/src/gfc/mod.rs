@@ -34,5 +34,5 @@ pub fn read(text: &str, choices: &Choices) -> Result<FieldFile, Fault> {
     if time.is_none() {
         notes.extend(choices.unused_epoch());
     }
-    Ok(FieldFile { field, name: head.name, time, notes })
+    Ok(FieldFile { field, name: head.name, time, span: None, notes })
 }

@@ -38,7 +38,7 @@ pub fn read(text: &str, choices: &Choices) -> Result<FieldFile, Fault> {
     let (field, mut notes) = table.finish(choices.absent_as_zero)?;
     notes.extend(choices.unused_epoch());
     let time = head.coverage.or(span.map(|(from, until)| format!("{from} to {until}")));
-    Ok(FieldFile { field, name: head.name, time, notes })
+    Ok(FieldFile { field, name: head.name, time, span, notes })
 }
 
 fn empty(head: &Head) -> Result<Coefficients, String> {

@@ -21,7 +21,7 @@ const LARGEST_WIDTH: f64 = 1440.0;
 const LARGEST_HEIGHT: f64 = 900.0;
 const LEAST_WIDTH: usize = 1060;
 /// What stands around the field: title above, colour bar below, labels of latitudes at its left.
-const TOP: usize = 150;
+const TOP: usize = 174;
 const BOTTOM: usize = 170;
 const SIDE: usize = 100;
 /// Text sizes, in doublings of the font: a title's and everything else's.
@@ -35,8 +35,8 @@ pub struct Map<'a> {
     pub values: &'a [f64],
     pub unit: &'a str,
     pub title: &'a str,
-    /// Two lines below the title.
-    pub subtitle: [&'a str; 2],
+    /// The lines below the title.
+    pub subtitle: [&'a str; 3],
 }
 
 /// Draw a map.
@@ -82,7 +82,8 @@ fn heading(canvas: &mut Canvas, map: &Map, note: &str) {
     let (middle, room) = (canvas.width / 2, canvas.width - SIDE / 2);
     let title = format!("{} ({})", map.title, map.unit);
     canvas.text((middle, 22), Align::Centre, &fitting(&title, TITLE, room), TITLE, BLACK);
-    let lines = [map.subtitle[0].to_string(), format!("{}{note}", map.subtitle[1])];
+    let [source, taken, place] = map.subtitle.map(str::to_string);
+    let lines = [source, taken, place + note];
     for (row, line) in lines.iter().enumerate() {
         canvas.text((middle, 70 + 24 * row), Align::Centre, &fitting(line, LABEL, room), LABEL, BLACK);
     }
