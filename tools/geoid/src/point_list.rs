@@ -8,7 +8,7 @@ use crate::error::Error;
 use crate::normal::NormalGravity;
 use crate::output::read_whole;
 
-/// What stands in the third column.
+/// What a list has beside latitude and longitude.
 #[derive(Clone, Copy, Debug, PartialEq)]
 pub enum Vertical {
     /// Geodetic latitudes, and metres above the ellipsoid.
@@ -63,7 +63,7 @@ impl Point {
     }
 }
 
-/// Load a list; points deep inside the body of a field are refused, unless any place is taken.
+/// Load a list.
 pub fn load(path: &Path) -> Result<PointList, Error> {
     let bytes = read_whole(path)?;
     let text = std::str::from_utf8(&bytes).map_err(|_| Error::in_file(path, "is not UTF-8 text; expected a list of points"))?;
