@@ -49,7 +49,7 @@ enum geopotential_answer {
 /* The functionals of a field; only water heights read the Love numbers. */
 enum geopotential_functional {
     GEOPOTENTIAL_POTENTIAL = 0,           /* m^2/s^2 */
-    GEOPOTENTIAL_GEOID_HEIGHT = 1,        /* m, by Bruns' formula with the sphere's gravity gm/r^2 */
+    GEOPOTENTIAL_GEOID_HEIGHT = 1,        /* m: the potential over gm/r^2, not over an ellipsoid's normal gravity */
     GEOPOTENTIAL_GRAVITY_DISTURBANCE = 2, /* m/s^2 */
     GEOPOTENTIAL_GRAVITY_ANOMALY = 3,     /* m/s^2 */
     GEOPOTENTIAL_RADIAL_GRADIENT = 4,     /* 1/s^2 */

@@ -119,9 +119,9 @@ impl Coefficients {
         let [_, _, _, latitudes, trig, work, out] = lengths::grid(self.nmax, rows, longitudes)?;
         let mut values = vec![0.0; out];
         workspace::lend(|lists| {
-            let (latitudes, trig, work) = (lists.latitudes.front(latitudes), lists.trig.front(trig), lists.work.front(work));
+            let (latitudes, work) = (lists.latitudes.front(latitudes), lists.work.front(work));
+            let trig = lists.longitudes.list(trig, lons, self.nmax);
             put_latitudes(latitudes, lats.iter().copied());
-            put_longitudes(trig, lons.iter().copied(), self.nmax);
             fields::grid(self, functional, r, Places { rows, latitudes, longitudes, trig }, work, &mut values)
         })?;
         Ok(values)

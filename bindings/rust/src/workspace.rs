@@ -4,6 +4,7 @@
 use core::cell::RefCell;
 
 use crate::legendre::GaussLists;
+use crate::trigonometry::put_longitudes;
 
 /// A list that grows and never shrinks.
 #[derive(Default)]
@@ -21,6 +22,31 @@ impl<T: Copy + Default> List<T> {
     }
 }
 
+/// Cosines and sines of the multiples of a grid's longitudes, kept for the next grid: rows of different radii come by calls of
+/// their own, with the same longitudes.
+#[derive(Default)]
+pub struct GridLongitudes {
+    /// The bits of the longitudes that the list belongs to, and its degree.
+    bits: Vec<u64>,
+    nmax: usize,
+    list: List,
+}
+
+impl GridLongitudes {
+    /// The list of `length` numbers of these longitudes (radians), worked out where the last one was not theirs.
+    pub fn list(&mut self, length: usize, lons: &[f64], nmax: usize) -> &[f64] {
+        let known = self.nmax == nmax && self.bits.iter().copied().eq(lons.iter().map(|lon| lon.to_bits()));
+        let list = self.list.front(length);
+        if !known {
+            put_longitudes(list, lons.iter().copied(), nmax);
+            self.bits.clear();
+            self.bits.extend(lons.iter().map(|lon| lon.to_bits()));
+            self.nmax = nmax;
+        }
+        list
+    }
+}
+
 /// The lists of one thread, each for one part of a call.
 #[derive(Default)]
 pub struct Workspace {
@@ -32,6 +58,8 @@ pub struct Workspace {
     pub latitudes: List,
     /// Cosines and sines of the multiples of longitudes.
     pub trig: List,
+    /// The same of a grid.
+    pub longitudes: GridLongitudes,
     /// Working numbers of a call.
     pub work: List,
     /// Numbers of a call whose answer is a list of records: partials of points, vectors of a cap.
@@ -58,6 +86,28 @@ pub fn lend<T>(call: impl FnOnce(&mut Workspace) -> T) -> T {
 #[cfg(test)]
 mod tests {
     use super::*;
+
+    #[test]
+    fn a_grids_longitudes_are_kept_until_others_come() {
+        let mut kept = GridLongitudes::default();
+        let mut fresh = |lons: &[f64], nmax: usize| {
+            let length = 2 * (nmax + 1) * lons.len();
+            let mut expected = vec![0.0; length];
+            put_longitudes(&mut expected, lons.iter().copied(), nmax);
+            assert_eq!(kept.list(length, lons, nmax), expected);
+            assert_eq!(kept.list(length, lons, nmax), expected);
+        };
+        fresh(&[], 0);
+        fresh(&[0.5, 1.0], 3);
+        fresh(&[0.5, 1.5], 3);
+        fresh(&[0.5, 1.5], 2);
+        fresh(&[0.5], 2);
+        fresh(&[-0.5, 1.5, 2.0], 4);
+        fresh(&[], 4);
+        fresh(&[0.0], 4);
+        // The two zeros are two longitudes: their sines differ.
+        assert!(kept.list(10, &[-0.0], 4)[3].is_sign_negative());
+    }
 
     #[test]
     fn a_list_grows_and_is_kept() {

@@ -13,9 +13,31 @@ pub struct Opt {
     pub help: &'static str,
 }
 
+/// The word before a `=` and the value behind it, which need not be text (a file's name).
+#[allow(unsafe_code)]
+fn split_at_sign(word: &OsStr) -> (&OsStr, Option<OsString>) {
+    let bytes = word.as_encoded_bytes();
+    match bytes.iter().position(|&byte| byte == b'=') {
+        None => (word, None),
+        // SAFETY: the encoded bytes are cut just before and just behind an ASCII character.
+        Some(place) => unsafe {
+            let value = OsStr::from_encoded_bytes_unchecked(&bytes[place + 1..]);
+            (OsStr::from_encoded_bytes_unchecked(&bytes[..place]), Some(value.to_os_string()))
+        },
+    }
+}
+
+/// A word as a shell takes it.
+fn quoted(word: &str) -> String {
+    let plain = |c: char| c.is_alphanumeric() || "-_./=+:,@%".contains(c);
+    if !word.is_empty() && word.chars().all(plain) { word.to_string() } else { format!("'{}'", word.replace('\'', "'\\''")) }
+}
+
 /// What a command line gives: its operands in order, and each option's value.
 #[derive(Debug, Default)]
 pub struct Arguments {
+    /// The words as a shell takes them.
+    pub line: String,
     operands: Vec<OsString>,
     options: BTreeMap<&'static str, OsString>,
 }
@@ -24,7 +46,8 @@ impl Arguments {
     /// Sort the words behind a command by the options it knows. An option's value is the next word,
     /// whatever it begins with (`--region -10/20/35/60`), or stands behind a `=`.
     pub fn parse(words: Vec<OsString>, known: &[Opt]) -> Result<Self, Error> {
-        let mut found = Arguments::default();
+        let line = words.iter().map(|word| quoted(&word.to_string_lossy())).collect::<Vec<_>>().join(" ");
+        let mut found = Arguments { line, ..Arguments::default() };
         let mut words = words.into_iter();
         while let Some(word) = words.next() {
             if word == "--" {
@@ -39,11 +62,8 @@ impl Arguments {
     }
 
     fn option(&mut self, word: &OsStr, words: &mut impl Iterator<Item = OsString>, known: &[Opt]) -> Result<(), Error> {
-        let shown = word.to_string_lossy();
-        let (name, joined) = match shown.split_once('=') {
-            Some((name, value)) => (name, Some(OsString::from(value))),
-            None => (&*shown, None),
-        };
+        let (front, joined) = split_at_sign(word);
+        let name = &*front.to_string_lossy();
         let opt = known.iter().find(|opt| opt.name == name).ok_or_else(|| Error::usage(format!("unknown option '{name}'")))?;
         let value = match (opt.value, joined) {
             ("", None) => OsString::new(),
@@ -57,20 +77,27 @@ impl Arguments {
         }
     }
 
-    /// Check that there are just the operands that a command names.
+    /// Check that there are just the operands that a command names; a last name with `...` behind it
+    /// stands for one operand or more.
     pub fn expect_operands(&self, names: &[&str]) -> Result<(), Error> {
         if let Some(missing) = names.get(self.operands.len()) {
-            return Err(Error::usage(format!("{missing} is missing")));
+            return Err(Error::usage(format!("{} is missing", missing.trim_end_matches("..."))));
         }
+        let open = names.last().is_some_and(|last| last.ends_with("..."));
         match self.operands.get(names.len()) {
-            Some(extra) => Err(Error::usage(format!("unexpected word '{}'", extra.to_string_lossy()))),
-            None => Ok(()),
+            Some(extra) if !open => Err(Error::usage(format!("unexpected word '{}'", extra.to_string_lossy()))),
+            _ => Ok(()),
         }
     }
 
     /// The operand at a place that [`expect_operands`](Self::expect_operands) has checked.
     pub fn operand(&self, place: usize) -> &Path {
         Path::new(&self.operands[place])
+    }
+
+    /// The operands from such a place to the last.
+    pub fn operands_from(&self, place: usize) -> impl ExactSizeIterator<Item = &Path> {
+        self.operands[place..].iter().map(Path::new)
     }
 
     /// Whether an option is given.

@@ -66,7 +66,7 @@ impl Canvas {
         for row in 0..line.height as isize {
             for column in 0..line.width as isize {
                 if line.dot(column, row) {
-                    self.set(left + column, y as isize + row, colour);
+                    self.set(left + column, y as isize + row - line.above as isize, colour);
                 }
             }
         }

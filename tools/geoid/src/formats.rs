@@ -1,15 +1,20 @@
-//! Grids as text files. Numbers have the shortest digits that read back to the same bits.
+//! Grids as text files. Numbers have the shortest digits that read back to the same bits. Neither kind has a place for what the
+//! values are and where they come from: files beside them have it, in the way of geographic information systems.
 
+use std::ffi::OsString;
 use std::io::{self, Write};
+use std::path::{Path, PathBuf};
 
+use crate::crs::{esri_text, well_known_text};
 use crate::grid::Nodes;
+use crate::provenance::Provenance;
 
 /// What an ESRI grid has where there is no number.
 const NODATA: f64 = -9999.0;
 
-/// Lines `lat,lon,value`, degrees and SI units, behind a line of names.
+/// Lines `lat,lon,z`, degrees and SI units, behind a line of names: those by which GDAL knows a raster.
 pub fn csv(nodes: &Nodes, values: &[f64], out: &mut dyn Write) -> io::Result<()> {
-    writeln!(out, "lat,lon,value")?;
+    writeln!(out, "lat,lon,z")?;
     for (lat, row) in nodes.latitudes.iter().zip(values.chunks(nodes.longitudes.len())) {
         for (lon, value) in nodes.longitudes.iter().zip(row) {
             writeln!(out, "{lat},{lon},{value:?}")?;
@@ -31,6 +36,33 @@ pub fn esri(nodes: &Nodes, values: &[f64], out: &mut dyn Write) -> io::Result<()
     Ok(())
 }
 
+/// The file beside a grid that has its system and its history (GDAL's `.aux.xml`): its name and its text.
+pub fn aux_file(path: &Path, about: &Provenance) -> (PathBuf, String) {
+    let mut name = OsString::from(path);
+    name.push(".aux.xml");
+    let items = [("title", &about.title), ("source", &about.source), ("comment", &about.comment()), ("history", &about.history)];
+    let items: String = items.map(|(key, text)| format!("    <MDI key=\"{key}\">{}</MDI>\n", escaped(text))).concat();
+    let text = format!(
+        "<PAMDataset>\n  <SRS dataAxisToSRSAxisMapping=\"2,1\">{}</SRS>\n  <Metadata>\n{items}  </Metadata>\n  \
+         <PAMRasterBand band=\"1\">\n    <Description>{}</Description>\n    <UnitType>{}</UnitType>\n  </PAMRasterBand>\n</PAMDataset>\n",
+        escaped(&well_known_text(&about.surface)),
+        escaped(about.quantity.title),
+        escaped(about.quantity.si_unit)
+    );
+    (name.into(), text)
+}
+
+/// The file beside an ESRI grid that has its system: its name and its text.
+pub fn prj_file(path: &Path, about: &Provenance) -> (PathBuf, String) {
+    (path.with_extension("prj"), esri_text(&about.surface) + "\n")
+}
+
+/// A text in XML; control characters have no place there.
+fn escaped(text: &str) -> String {
+    let text = text.replace('&', "&amp;").replace('<', "&lt;").replace('>', "&gt;").replace('"', "&quot;");
+    text.replace(char::is_control, " ")
+}
+
 #[cfg(test)]
 mod tests {
     use super::*;
@@ -45,7 +77,7 @@ mod tests {
 
     #[test]
     fn csv_has_a_line_a_node() {
-        let expected = "lat,lon,value\n10.5,-0.5,1.0\n10.5,0,-0.1\n10.5,0.5,1e-9\n10,-0.5,NaN\n10,0,1e300\n10,0.5,12345.678\n";
+        let expected = "lat,lon,z\n10.5,-0.5,1.0\n10.5,0,-0.1\n10.5,0.5,1e-9\n10,-0.5,NaN\n10,0,1e300\n10,0.5,12345.678\n";
         assert_eq!(written(csv), expected);
     }
 

@@ -1,6 +1,10 @@
 //! Regular grids: where their nodes are, and a field's values there.
 
 use std::collections::BTreeMap;
+use std::ops::Range;
+use std::sync::atomic::{AtomicUsize, Ordering};
+use std::sync::{Mutex, PoisonError};
+use std::thread;
 
 use geopotential::{Coefficients, Functional};
 
@@ -18,6 +22,8 @@ const CALL_WORK: usize = 50_000_000;
 const TRIG_LIMIT: usize = 1 << 23;
 /// Fewer rows a call would spend more on the call's own tables than on the rows.
 const FEWEST_ROWS: usize = 16;
+/// How many calls a thread gets of each radius' rows, where they are many.
+const PIECES_A_THREAD: usize = 4;
 
 /// A part of the globe, degrees; the longitudes span at most a full circle.
 #[derive(Clone, Copy, Debug, PartialEq)]
@@ -81,6 +87,11 @@ impl Nodes {
         let longitudes = (0..columns).map(|j| between(region.west, region.east, j, columns - 1)).collect();
         Ok(Nodes { region, step, latitudes, longitudes })
     }
+
+    /// The nodes of some rows alone, counted from 0 in the north.
+    pub fn rows(&self, rows: Range<usize>) -> Nodes {
+        Nodes { latitudes: self.latitudes[rows].to_vec(), ..self.clone() }
+    }
 }
 
 /// How many steps make a side.
@@ -108,6 +119,14 @@ pub enum Surface {
 }
 
 impl Surface {
+    /// The ellipsoid, if it is one.
+    pub fn ellipsoid(&self) -> Option<NormalGravity> {
+        match self {
+            Surface::Sphere(_) => None,
+            Surface::Ellipsoid(ellipsoid) => Some(*ellipsoid),
+        }
+    }
+
     /// Geocentric latitude (rad) and radius (m) of a row.
     pub fn row(&self, degrees: f64) -> (f64, f64) {
         match self {
@@ -117,27 +136,78 @@ impl Surface {
     }
 }
 
-/// A field's values at the nodes, row after row from the north.
-pub fn evaluate(field: &Coefficients, functional: &Functional, nodes: &Nodes, surface: Surface) -> Result<Vec<f64>, Error> {
+/// How many threads the machine runs side by side.
+pub fn cores() -> usize {
+    thread::available_parallelism().map_or(1, |count| count.get())
+}
+
+/// One call of the library: some rows of one radius, and some longitudes from a column on.
+struct Piece<'a> {
+    radius: f64,
+    rows: &'a [(usize, f64)],
+    column: usize,
+    longitudes: &'a [f64],
+}
+
+/// A field's values at the nodes, row after row from the north, by some threads. Each takes the next piece that none has taken yet; a value depends on its
+/// own row and longitude alone, so its bits don't depend on the pieces.
+pub fn evaluate_by(
+    threads: usize,
+    field: &Coefficients,
+    functional: &Functional,
+    nodes: &Nodes,
+    surface: Surface,
+) -> Result<Vec<f64>, Error> {
     let columns = nodes.longitudes.len();
     let longitudes: Vec<f64> = nodes.longitudes.iter().map(|degrees| degrees.to_radians()).collect();
-    let (rows_a_call, longitudes_a_call) = call_size(field.max_degree(), columns);
-    let mut out = vec![0.0; nodes.latitudes.len() * columns];
-    let mut progress = Progress::new("grid", out.len());
-    for (radius, rows) in rows_by_radius(nodes, surface) {
-        for rows in rows.chunks(rows_a_call) {
-            let latitudes: Vec<f64> = rows.iter().map(|&(_, latitude)| latitude).collect();
-            for (block, longitudes) in longitudes.chunks(longitudes_a_call).enumerate() {
-                let values = field.try_grid(functional, radius, &latitudes, longitudes)?;
-                for (&(row, _), values) in rows.iter().zip(values.chunks(longitudes.len())) {
-                    let start = row * columns + block * longitudes_a_call;
-                    out[start..start + values.len()].copy_from_slice(values);
-                }
-                progress.advance(values.len());
+    let groups = rows_by_radius(nodes, surface);
+    let pieces = pieces(&groups, &longitudes, field.max_degree(), threads);
+    let next = AtomicUsize::new(0);
+    let values = nodes.latitudes.len() * columns;
+    let out = Mutex::new((vec![0.0; values], Progress::new("grid", values)));
+    let work = || -> Result<(), Error> {
+        while let Some(piece) = pieces.get(next.fetch_add(1, Ordering::Relaxed)) {
+            let latitudes: Vec<f64> = piece.rows.iter().map(|&(_, latitude)| latitude).collect();
+            let values = field.try_grid(functional, piece.radius, &latitudes, piece.longitudes)?;
+            let (out, progress) = &mut *out.lock().unwrap_or_else(PoisonError::into_inner);
+            for (&(row, _), values) in piece.rows.iter().zip(values.chunks(piece.longitudes.len())) {
+                out[row * columns + piece.column..][..values.len()].copy_from_slice(values);
+            }
+            progress.advance(values.len());
+        }
+        Ok(())
+    };
+    run_side_by_side(threads.min(pieces.len()), &work)?;
+    Ok(out.into_inner().unwrap_or_else(PoisonError::into_inner).0)
+}
+
+/// Run the same work in some threads, this one among them; the first error is answered.
+fn run_side_by_side(threads: usize, work: &(impl Fn() -> Result<(), Error> + Sync)) -> Result<(), Error> {
+    thread::scope(|scope| {
+        let others: Vec<_> = (1..threads).map(|_| scope.spawn(work)).collect();
+        let mut done = work();
+        for other in others {
+            let answer = other.join().unwrap_or_else(|panic| std::panic::resume_unwind(panic));
+            done = done.and(answer);
+        }
+        done
+    })
+}
+
+/// The calls of a grid. There are several for each thread, so that none waits long for the last one.
+fn pieces<'a>(groups: &'a [(f64, Vec<(usize, f64)>)], longitudes: &'a [f64], max_degree: usize, threads: usize) -> Vec<Piece<'a>> {
+    let (largest, longitudes_a_call) = call_size(max_degree, longitudes.len());
+    let mut pieces = Vec::new();
+    // The longitudes change last: a thread keeps their table from one call to the next.
+    for (block, longitudes) in longitudes.chunks(longitudes_a_call).enumerate() {
+        for (radius, rows) in groups {
+            let rows_a_call = rows.len().div_ceil(PIECES_A_THREAD * threads.max(1)).max(FEWEST_ROWS).min(largest);
+            for rows in rows.chunks(rows_a_call) {
+                pieces.push(Piece { radius: *radius, rows, column: block * longitudes_a_call, longitudes });
             }
         }
     }
-    Ok(out)
+    pieces
 }
 
 /// The rows of each radius, as (row, latitude): one call of the library has one radius. On an
@@ -151,7 +221,7 @@ fn rows_by_radius(nodes: &Nodes, surface: Surface) -> Vec<(f64, Vec<(usize, f64)
     groups.into_iter().map(|(bits, rows)| (f64::from_bits(bits), rows)).collect()
 }
 
-/// How many rows and longitudes one call of the library gets.
+/// The most rows and longitudes that one call of the library gets.
 fn call_size(max_degree: usize, columns: usize) -> (usize, usize) {
     let longitudes = columns.min(TRIG_LIMIT / (2 * max_degree + 2)).clamp(1, CALL_LIMIT);
     let work_a_row = (max_degree + 1) * (max_degree + 2) / 2 + longitudes * (max_degree + 1);
@@ -204,16 +274,44 @@ mod tests {
         assert_eq!(rows_by_radius(&nodes, Surface::Sphere(1.0)).len(), 1);
     }
 
-    #[test]
-    fn values_do_not_depend_on_the_blocks() {
-        let field = crate::normal::GRS80.coefficients(4).unwrap();
-        let nodes = Nodes::new(GLOBE, 15.0).unwrap();
-        let surface = Surface::Ellipsoid(crate::normal::GRS80);
-        let values = evaluate(&field, &Functional::Potential, &nodes, surface).unwrap();
-        for (row, &degrees) in nodes.latitudes.iter().enumerate() {
+    /// The bits of each node's value, taken alone.
+    fn alone(field: &Coefficients, nodes: &Nodes, surface: Surface) -> Vec<u64> {
+        let mut bits = Vec::new();
+        for &degrees in &nodes.latitudes {
             let (latitude, radius) = surface.row(degrees);
-            let alone = field.try_grid(&Functional::Potential, radius, &[latitude], &[0.5]).unwrap();
-            assert!((values[row * nodes.longitudes.len()] - alone[0]).abs() <= 1e-14 * alone[0]);
+            for longitude in &nodes.longitudes {
+                let value = field.grid(&Functional::GeoidHeight, radius, &[latitude], &[longitude.to_radians()]);
+                bits.push(value[0].to_bits());
+            }
         }
+        bits
+    }
+
+    #[test]
+    fn values_do_not_depend_on_the_pieces() {
+        let field = crate::sample::sample(12, 1).unwrap();
+        let nodes = Nodes::new(GLOBE, 5.0).unwrap();
+        for surface in [Surface::Ellipsoid(crate::normal::GRS80), Surface::Sphere(6.5e6)] {
+            let expected = alone(&field, &nodes, surface);
+            for threads in [1, 2, 3, 64] {
+                let values = evaluate_by(threads, &field, &Functional::GeoidHeight, &nodes, surface).unwrap();
+                assert!(values.iter().map(|value| value.to_bits()).eq(expected.iter().copied()), "{threads} threads");
+            }
+        }
+    }
+
+    #[test]
+    fn pieces_are_large_enough() {
+        let nodes = Nodes::new(GLOBE, 0.5).unwrap();
+        let groups = rows_by_radius(&nodes, Surface::Sphere(1.0));
+        let count = |threads| pieces(&groups, &nodes.longitudes, 96, threads).len();
+        assert_eq!((count(1), count(2), count(1000)), (4, 8, 361usize.div_ceil(FEWEST_ROWS)));
+    }
+
+    #[test]
+    fn an_error_of_one_thread_is_the_answer() {
+        let count = AtomicUsize::new(0);
+        let work = || if count.fetch_add(1, Ordering::Relaxed) == 2 { Err(Error::failure("third")) } else { Ok(()) };
+        assert_eq!(run_side_by_side(4, &work), Err(Error::failure("third")));
     }
 }

@@ -34,6 +34,11 @@ impl NormalGravity {
         [GRS80, WGS84].into_iter().find(|normal| normal.name.eq_ignore_ascii_case(text))
     }
 
+    /// The ellipsoid of an option's value.
+    pub fn of_option(option: &str, text: &str, expected: &str) -> Result<NormalGravity, Error> {
+        Self::named(text).ok_or_else(|| Error::usage(format!("{option} is '{text}'; expected {expected}")))
+    }
+
     /// The semi-minor axis `b = a(1 − f)`, m.
     pub fn b(&self) -> f64 {
         self.a * (1.0 - self.f)
@@ -49,19 +54,50 @@ impl NormalGravity {
         self.omega * self.omega * self.a * self.a * self.b() / self.gm
     }
 
-    /// `2e′/(15q₀)` with `q₀ = 2 Σ (−1)ⁿ⁺¹ n e′²ⁿ⁺¹/((2n+1)(2n+3))`, n from 1: the series of Heiskanen &
-    /// Moritz's Eq. 2-58, whose closed form loses ten digits to cancellation.
-    fn fifteenth(&self) -> f64 {
-        let square = self.e2() / (1.0 - self.e2()); // e′²
+    /// The second eccentricity squared, `e′² = e²/(1 − e²)`.
+    fn second_e2(&self) -> f64 {
+        self.e2() / (1.0 - self.e2())
+    }
+
+    /// `Σ (−1)ⁿ⁺¹ w(n) e′²ⁿ/((2n+1)(2n+3))`, n from 1: `q₀/(2e′)` with w(n) = n and `q₀′/6` with w(n) = 1, whose
+    /// closed forms lose ten digits to cancellation.
+    fn series(&self, weight: fn(f64) -> f64) -> f64 {
+        let square = self.second_e2();
         let mut power = square; // e′²ⁿ
-        let mut sum = 0.0; // q₀/(2e′)
+        let mut sum = 0.0;
         for n in 1..=12 {
             let nf = n as f64;
-            let term = nf * power / ((2.0 * nf + 1.0) * (2.0 * nf + 3.0));
+            let term = weight(nf) * power / ((2.0 * nf + 1.0) * (2.0 * nf + 3.0));
             sum += if n % 2 == 1 { term } else { -term };
             power *= square;
         }
-        1.0 / (15.0 * sum)
+        sum
+    }
+
+    /// `2e′/(15q₀)`.
+    fn fifteenth(&self) -> f64 {
+        1.0 / (15.0 * self.series(|n| n))
+    }
+
+    /// Normal gravity at the equator and at the poles, m/s² (Heiskanen & Moritz, §2.8).
+    pub fn equator_and_pole(&self) -> (f64, f64) {
+        let third = self.m() * self.series(|_| 1.0) / self.series(|n| n); // m e′q₀′/(3q₀)
+        let equator = self.gm / (self.a * self.b()) * (1.0 - self.m() - third / 2.0);
+        (equator, self.gm / (self.a * self.a) * (1.0 + third))
+    }
+
+    /// Normal gravity on the ellipsoid at geodetic latitude `lat` (rad), m/s²: Somigliana's formula.
+    pub fn surface_gravity(&self, lat: f64) -> f64 {
+        let (sin, cos) = lat.sin_cos();
+        let (equator, pole) = self.equator_and_pole();
+        let (a, b) = (self.a, self.b());
+        (a * equator * cos * cos + b * pole * sin * sin) / (a * a * cos * cos + b * b * sin * sin).sqrt()
+    }
+
+    /// The normal potential on the ellipsoid, `U₀ = (GM/E) arctan e′ + ω²a²/3`, m²/s².
+    pub fn u0(&self) -> f64 {
+        let distance = self.a * self.e2().sqrt(); // E
+        self.gm / distance * self.second_e2().sqrt().atan() + self.omega * self.omega * self.a * self.a / 3.0
     }
 
     /// The dynamical form factor `J₂ = (e²/3)(1 − 2me′/(15q₀))`.
@@ -101,9 +137,14 @@ impl NormalGravity {
 
     /// Geocentric latitude (rad) and radius (m) of the point of the ellipsoid at geodetic latitude `lat` (rad).
     pub fn geocentric(&self, lat: f64) -> (f64, f64) {
+        self.geocentric_above(lat, 0.0)
+    }
+
+    /// The same of the point `height` metres above the ellipsoid there.
+    pub fn geocentric_above(&self, lat: f64, height: f64) -> (f64, f64) {
         let (sin, cos) = lat.sin_cos();
         let n = self.a / (1.0 - self.e2() * sin * sin).sqrt();
-        let (p, z) = (n * cos, n * (1.0 - self.e2()) * sin);
+        let (p, z) = ((n + height) * cos, (n * (1.0 - self.e2()) + height) * sin);
         (z.atan2(p), p.hypot(z))
     }
 }

@@ -2,6 +2,7 @@
 
 use std::path::Path;
 
+use geoid::field_file::{Choices, FieldFile};
 use geoid::gfc;
 use geoid::random::SplitMix64;
 use geopotential::{Coefficients, TideSystem, model_file};
@@ -24,11 +25,18 @@ const DATA: &str = "\
 gfc 0 0 1.0 0.0 0.0 0.0
 gfc 2 0 -0.484165D-03 0.0d0 1e-12 0.0
 
-gfc 2 1 -2.0E-10 1.4e-9
+gfc 2 1 -2.0E-10 1.4e-9 1e-13 2e-13
+gfc 1 0 0.0 0.0 0.0 0.0
+gfc 1 1 0.0 0.0 0.0 0.0
+gfc 2 2 2.4e-6 -1.4e-6 1e-13 1e-13
 ";
 
-fn read(text: &str) -> Result<gfc::Reading, String> {
-    gfc::read(Path::new("x.gfc"), text.as_bytes()).map_err(|error| error.to_string())
+fn read(text: &str) -> Result<FieldFile, String> {
+    read_with(text, Choices::default())
+}
+
+fn read_with(text: &str, choices: Choices) -> Result<FieldFile, String> {
+    gfc::read(text, &choices).map_err(|fault| fault.in_file(Path::new("x.gfc")).to_string())
 }
 
 /// The error of the sample file after one text in it is replaced.
@@ -44,8 +52,8 @@ fn a_file_with_everything() {
     let field = reading.field;
     assert_eq!((field.gm, field.radius, field.max_degree()), (3.986004415e14, 6378136.3, 2));
     assert_eq!(field.tide_system, TideSystem::ZeroTide);
-    assert_eq!((field.c(0, 0), field.c(2, 0), field.c(2, 1), field.s(2, 1), field.c(2, 2)), (1.0, -4.84165e-4, -2e-10, 1.4e-9, 0.0));
-    assert_eq!(reading.absent, 3);
+    assert_eq!((field.c(0, 0), field.c(2, 0), field.c(2, 1), field.s(2, 1), field.c(2, 2)), (1.0, -4.84165e-4, -2e-10, 1.4e-9, 2.4e-6));
+    assert_eq!((reading.name.as_deref(), reading.time, reading.notes.len()), (Some("TEST"), None, 0));
 }
 
 #[test]
@@ -56,9 +64,9 @@ fn line_ends_of_other_systems() {
 
 #[test]
 fn keys_that_may_be_absent() {
-    let text = "earth_gravity_constant 1\nradius 1\nmax_degree 0\nend_of_head\n";
+    let text = "earth_gravity_constant 1\nradius 1\nmax_degree 0\nend_of_head\ngfc 0 0 2 0\n";
     let reading = read(text).unwrap();
-    assert_eq!((reading.field.tide_system, reading.absent), (TideSystem::Unknown, 1));
+    assert_eq!((reading.field.tide_system, reading.field.c(0, 0), reading.name), (TideSystem::Unknown, 2.0, None));
 }
 
 #[test]
@@ -87,7 +95,7 @@ fn mistakes_in_the_head() {
         (
             "end_of_head",
             "end_of_tail",
-            "line 16: the file stops before 'end_of_head'; expected an ICGEM head (a model file begins with the byte 1)",
+            "line 19: the file stops before 'end_of_head'; expected an ICGEM head (a model file begins with the byte 1)",
         ),
     ];
     for (from, to, expected) in cases {
@@ -110,8 +118,7 @@ fn mistakes_in_the_data() {
         ("-2.0E-10", "-2.0X-10", "line 16: '-2.0X-10' is no number; expected one such as -4.84165D-04"),
         ("-2.0E-10", "nan", "line 16: 'nan' is no number; expected one such as -4.84165D-04"),
         ("-2.0E-10", "1e999", "line 16: '1e999' is too large for a double; expected a finite number"),
-        (" 1.4e-9", "", "line 16: S is missing; expected 'gfc n m C S'"),
-        ("1.4e-9", "1.4e-9 1e-12", "line 16: 1 numbers behind S; expected none, or 2 or 4 standard deviations"),
+        ("gfc 2 1 -2.0E-10 1.4e-9 1e-13 2e-13", "gfc 2", "line 16: the order m is missing; expected 'gfc n m C S'"),
         ("gfc 2 1", "coefficient 2 1", "line 16: 'coefficient' is no keyword of a data line; expected 'gfc n m C S'"),
     ];
     for (from, to, expected) in cases {
@@ -120,27 +127,99 @@ fn mistakes_in_the_data() {
 }
 
 #[test]
-fn time_variable_lines_are_named() {
-    let kinds = [
-        ("gfct", "the value of a coefficient at an epoch"),
-        ("trnd", "the yearly trend of a coefficient"),
-        ("acos", "the cosine part of a periodic change"),
-        ("asin", "the sine part of a periodic change"),
-    ];
-    for (keyword, kind) in kinds {
-        let expected = format!(
-            "x.gfc: line 16: a '{keyword}' line ({kind}, of a time-variable model); expected a static field, with 'gfc' lines only"
-        );
-        assert_eq!(refused("gfc 2 1", &format!("{keyword} 2 1")), expected);
+fn the_count_of_sigmas_is_the_heads() {
+    let line = "gfc 2 1 -2.0E-10 1.4e-9 1e-13 2e-13";
+    let due = "expected 4 by the head's 'errors': C, S, 2 standard deviations";
+    for count in [0, 1, 2, 3, 5, 6] {
+        let numbers = ["-2.0E-10", "1.4e-9", "1e-13", "2e-13", "3e-13", "4e-13"][..count].join(" ");
+        let expected = format!("x.gfc: line 16: {count} numbers behind n and m; {due}");
+        assert_eq!(refused(line, &format!("gfc 2 1 {numbers}")), expected);
     }
+    let due = "expected 2 by the head's 'errors': C, S";
+    assert_eq!(refused("errors formal", "errors no"), format!("x.gfc: line 13: 4 numbers behind n and m; {due}"));
+    let due = "expected 6 by the head's 'errors': C, S, 4 standard deviations";
+    assert_eq!(refused("errors formal", "errors calibrated_and_formal"), format!("x.gfc: line 13: 4 numbers behind n and m; {due}"));
+    // Without the key the first line decides.
+    let text = format!("{HEAD}{DATA}").replace("errors formal\n", "");
+    assert!(read(&text).is_ok());
+    let due = "expected 4 as in the first line: C, S, 2 standard deviations";
+    assert_eq!(
+        read(&text.replace(line, "gfc 2 1 -2.0E-10 1.4e-9")).unwrap_err(),
+        format!("x.gfc: line 15: 2 numbers behind n and m; {due}")
+    );
 }
 
 #[test]
-fn a_file_that_is_no_text() {
-    let mut bytes = HEAD.as_bytes().to_vec();
-    bytes[HEAD.find("TEST").unwrap()] = 0xe9;
-    let error = gfc::read(Path::new("x.gfc"), &bytes).unwrap_err().to_string();
-    assert_eq!(error, "x.gfc: line 4: the byte 0xe9 is not UTF-8 text; expected an ICGEM text file");
+fn a_text_cut_anywhere_is_refused() {
+    let text = format!("{HEAD}{DATA}");
+    for cut in 1..=text.trim_end().len() {
+        assert!(read(&text[..cut]).is_err(), "cut to {cut} bytes: {:?}", &text[..cut].lines().last());
+    }
+    // Only what stands behind the last number may be lost.
+    assert!(read(&format!("{text}  ")).is_ok());
+    let error = read(text.trim_end()).unwrap_err();
+    assert_eq!(error, "x.gfc: line 19: the file ends inside this line, without a line break: it is cut; expected a line break at its end");
+}
+
+#[test]
+fn absent_pairs_are_refused_by_name() {
+    let text = format!("{HEAD}{DATA}");
+    let without = |lines: &[&str]| {
+        text.lines().filter(|line| !lines.iter().any(|front| line.starts_with(front))).fold(String::new(), |text, line| text + line + "\n")
+    };
+    let error = read(&without(&["gfc 2 1"])).unwrap_err();
+    assert_eq!(error, "x.gfc: the pair (2, 1) is absent; expected every pair to degree 2, or --absent-as-zero");
+    let error = read(&without(&["gfc 2 1", "gfc 1 1", "gfc 2 2"])).unwrap_err();
+    assert_eq!(error, "x.gfc: the pair (1, 1) is absent (and 2 more); expected every pair to degree 2, or --absent-as-zero");
+    let zeros = Choices { absent_as_zero: true, ..Choices::default() };
+    let reading = read_with(&without(&["gfc 2 1", "gfc 2 2"]), zeros).unwrap();
+    assert_eq!((reading.field.c(2, 1), reading.field.c(2, 2)), (0.0, 0.0));
+    assert_eq!(reading.notes, ["2 of 6 pairs are absent and taken as 0"]);
+}
+
+#[test]
+fn a_whole_model_of_the_earth_may_begin_with_degree_two() {
+    let text = format!("{HEAD}{DATA}").replace("gfc 0 0 1.0 0.0 0.0 0.0\n", "");
+    let reading = read(&text).unwrap();
+    assert_eq!(reading.field.c(0, 0), 1.0);
+    assert_eq!(reading.notes, ["C(0,0) is absent and taken as 1, as in a model of the Earth whose GM stands for it"]);
+    let text = text.replace("gfc 1 0 0.0 0.0 0.0 0.0\ngfc 1 1 0.0 0.0 0.0 0.0\n", "");
+    let reading = read(&text).unwrap();
+    assert_eq!((reading.field.c(0, 0), reading.field.c(1, 0), reading.field.c(1, 1)), (1.0, 0.0, 0.0));
+    assert!(reading.notes[1].starts_with("degree 1 is absent and taken as 0"));
+    // A difference of months, a kernel and another body may not.
+    for (from, to) in [("-0.484165D-03", "1.2D-10"), ("0.3986004415D+15", "1.0"), ("0.3986004415D+15", "4.28283D+13")] {
+        let error = read(&text.replace(from, to)).unwrap_err();
+        let rule = "expected every pair to degree 2 (only a whole model of the Earth may leave out C(0,0)), or --absent-as-zero";
+        assert_eq!(error, format!("x.gfc: the pair (0, 0) is absent (and 2 more); {rule}"));
+    }
+    // With --absent-as-zero the convention still holds where it is known to.
+    let zeros = Choices { absent_as_zero: true, ..Choices::default() };
+    assert_eq!(read_with(&text, zeros).unwrap().field.c(0, 0), 1.0);
+    assert_eq!(read_with(&text.replace("-0.484165D-03", "1.2D-10"), zeros).unwrap().field.c(0, 0), 0.0);
+}
+
+#[test]
+fn words_may_be_in_capitals() {
+    let text = format!("{HEAD}{DATA}").to_uppercase().replace("FREE TEXT", "free text");
+    let (small, capital) = (read(&format!("{HEAD}{DATA}")).unwrap(), read(&text).unwrap());
+    assert_eq!(small.field, capital.field);
+}
+
+#[test]
+fn gravity_constant_is_another_word() {
+    let text = format!("{HEAD}{DATA}");
+    assert_eq!(read(&text.replace("earth_gravity_constant", "gravity_constant")).unwrap().field.gm, 3.986004415e14);
+    let both = text.replace("errors formal", "errors formal\ngravity_constant 1");
+    let error = read(&both).unwrap_err();
+    assert!(error.starts_with("x.gfc: line 9: the key 'earth_gravity_constant' is given a second time"), "{error}");
+}
+
+#[test]
+fn free_text_before_the_head_may_begin_with_keys() {
+    let text = format!("radius of the Earth and\nradius of the orbit\nmodelname ANOTHER\nerrors are\nerrors\n{HEAD}{DATA}");
+    let reading = read(&text).unwrap();
+    assert_eq!((reading.field.radius, reading.name.as_deref()), (6378136.3, Some("TEST")));
 }
 
 /// A field of random finite bits, subnormals and both zeros among them.
@@ -175,7 +254,7 @@ fn every_bit_comes_back() {
         let text = gfc::write("any name", &field).unwrap();
         assert_eq!(text.lines().filter(|line| line.starts_with("gfc ")).count(), (max_degree + 1) * (max_degree + 2) / 2);
         let back = read(&text).unwrap();
-        assert_eq!(back.absent, 0);
+        assert_eq!(back.notes.len(), 0);
         assert_eq!(model_file::write(&back.field).unwrap(), model_file::write(&field).unwrap());
     }
 }

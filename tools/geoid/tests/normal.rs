@@ -1,6 +1,6 @@
 //! The normal field and the places of the ellipsoid.
 
-use geoid::grid::{GLOBE, Nodes, Surface, evaluate};
+use geoid::grid::{GLOBE, Nodes, Surface, evaluate_by};
 use geoid::normal::{GRS80, NormalGravity, WGS84};
 use geopotential::Functional;
 
@@ -34,13 +34,39 @@ fn the_ellipsoid_is_a_level_surface() {
     let field = GRS80.coefficients(20).unwrap();
     let nodes = Nodes::new(GLOBE, 5.0).unwrap();
     let surface = Surface::Ellipsoid(GRS80);
-    let potential = evaluate(&field, &Functional::Potential, &nodes, surface).unwrap();
+    let potential = evaluate_by(1, &field, &Functional::Potential, &nodes, surface).unwrap();
     for (row, &degrees) in nodes.latitudes.iter().enumerate() {
         let (latitude, radius) = surface.row(degrees);
         let speed = GRS80.omega * radius * latitude.cos();
         let total = potential[row * nodes.longitudes.len()] + 0.5 * speed * speed;
         assert!((total - 62_636_860.850).abs() < 1e-3, "{degrees}: {total}");
     }
+}
+
+#[test]
+fn normal_gravity_is_the_published_one() {
+    // Moritz (2000): 9.7803267715, 9.8321863685, and 9.806199203 at 45 degrees; more digits by arithmetic of 30 digits.
+    let (equator, pole) = GRS80.equator_and_pole();
+    assert!(near(equator, 9.780_326_771_534_88, 1e-15) && near(pole, 9.832_186_368_519_57, 1e-15));
+    assert!(near(GRS80.surface_gravity(0.0), equator, 1e-15) && near(GRS80.surface_gravity(-std::f64::consts::FRAC_PI_2), pole, 1e-15));
+    assert!(near(GRS80.surface_gravity(45f64.to_radians()), 9.806_199_202_522_764, 1e-15));
+    // NIMA TR8350.2: 9.7803253359, 9.8321849378.
+    let (equator, pole) = WGS84.equator_and_pole();
+    assert!(near(equator, 9.7803253359, 1e-11) && near(pole, 9.8321849378, 1e-11));
+}
+
+#[test]
+fn the_potential_of_the_ellipsoid_is_the_published_one() {
+    assert!(near(GRS80.u0(), 62_636_860.850_046_09, 1e-15));
+    assert!((WGS84.u0() - 62_636_851.714_6).abs() < 1e-3);
+}
+
+#[test]
+fn heights_above_the_ellipsoid_are_along_its_normal() {
+    let (latitude, radius) = GRS80.geocentric_above(45f64.to_radians(), 1000.0);
+    let (below, foot) = GRS80.geocentric(45f64.to_radians());
+    let (dp, dz) = (radius * latitude.cos() - foot * below.cos(), radius * latitude.sin() - foot * below.sin());
+    assert!((dp.hypot(dz) - 1000.0).abs() < 1e-8 && (dz.atan2(dp) - 45f64.to_radians()).abs() < 1e-11);
 }
 
 #[test]

@@ -232,7 +232,7 @@ fn map_of(region: Region, step: f64, value: impl Fn(f64, f64) -> f64) -> Result<
         .flat_map(|&lat| nodes.longitudes.iter().map(move |&lon| (lat, lon)))
         .map(|(lat, lon)| value(lat, lon))
         .collect();
-    draw(&Map { nodes: &nodes, values: &values, unit: "m", title: "Test", subtitle: ["one", "two"] })
+    draw(&Map { nodes: &nodes, values: &values, unit: "m", title: "Test", subtitle: ["one", "two", "three"] })
 }
 
 #[test]
@@ -254,6 +254,15 @@ fn strange_values_can_be_drawn() {
         assert!(map_of(GLOBE, 30.0, |lat, _| if lat > 0.0 { value } else { -1.0 }).is_ok(), "{value}");
         assert!(map_of(GLOBE, 30.0, |lat, _| if lat > 0.0 { value } else { -value }).is_ok(), "{value}");
     }
+}
+
+#[test]
+fn a_map_of_nothing_has_no_colours() {
+    let nothing = map_of(GLOBE, 30.0, |_, _| f64::NAN).unwrap();
+    // White, black and the grey of missing values; no colour bar, whose numbers would be of nothing.
+    assert!(nothing.pixels.iter().all(|&pixel| pixel <= 2));
+    let something = map_of(GLOBE, 30.0, |lat, _| if lat > 80.0 { 0.0 } else { f64::NAN }).unwrap();
+    assert!(something.pixels.iter().any(|&pixel| pixel > 2));
 }
 
 #[test]

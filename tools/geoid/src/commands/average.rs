@@ -1,30 +1,127 @@
-//! `geoid average`: the mean of a field over a basin.
+//! `geoid average`: the mean of a field over basins.
 
+use std::fmt::Write;
+use std::path::{Path, PathBuf};
+
+use geopotential::Coefficients;
 use geopotential::slepian::try_basin_average;
 
-use super::{Command, FUNCTIONAL, LOVE};
+use super::{ABSENT_AS_ZERO, Command, EPOCH, FUNCTIONAL, LOVE, field, kernel};
 use crate::arguments::{Arguments, Opt};
+use crate::body::{ANY_BODY, check_radius};
+use crate::difference::{DEGREE, Matching, Named, TIDE_AS_IS};
 use crate::error::Error;
-use crate::field_file::load;
-use crate::quantity::Quantity;
+use crate::output::{note, write_whole};
+use crate::quantity::{Love, Quantity};
+use crate::reduction::{NORMAL, Reduction, Wish, ZERO_DEGREE};
 
 pub const COMMAND: Command = Command {
     name: "average",
-    summary: "the mean of a field over a basin, by the basin's kernel",
-    usage: "FIELD KERNEL [OPTIONS]",
-    operands: &["FIELD", "KERNEL"],
-    options: &[FUNCTIONAL, LOVE, Opt { name: "--radius", value: "R", help: "metres; default the field's own radius" }],
-    details: "KERNEL is the basin's kernel as a field (Swenson & Wahr 2002; its first coefficient is the share of the\n\
-              sphere that the basin covers). The lower of the two degrees is used. The answer is one number in SI units,\n\
-              with all its digits. No normal field is taken off.\n",
+    summary: "the mean of a field over basins, by the basins' kernels",
+    usage: "FIELD KERNEL... [OPTIONS]",
+    operands: &["FIELD", "KERNEL..."],
+    options: &[
+        Opt { name: "--minus", value: "FIELD2", help: "the mean of FIELD less FIELD2, such as two months" },
+        Opt { name: "--out", value: "FILE.csv", help: "write a table, one line a kernel" },
+        FUNCTIONAL,
+        LOVE,
+        Opt { name: "--radius", value: "R", help: "metres; default the field's own radius" },
+        NORMAL,
+        ZERO_DEGREE,
+        DEGREE,
+        TIDE_AS_IS,
+        ABSENT_AS_ZERO,
+        EPOCH,
+        ANY_BODY,
+    ],
+    details: "KERNEL is a basin's kernel as a field (Swenson & Wahr 2002; its first coefficient is the share of the sphere\n\
+              that the basin covers; its GM and radius are not used). The lower of the two degrees is used. One kernel\n\
+              without --out answers one number in SI units with all its digits; several, or --out, a table: name, average,\n\
+              share of the sphere, degree used, water heights in millimetres of water (the library's times 1000), all else\n\
+              in SI units. --minus, --degree and --tide-as-is are those of geoid subtract. A geoid height is divided by\n\
+              GM/r^2, as by geoid grid --gamma sphere.\n",
     run,
 };
+
+/// The mean over one basin.
+struct Basin {
+    name: String,
+    mean: f64,
+    share: f64,
+    degree: usize,
+}
 
 fn run(arguments: &Arguments) -> Result<String, Error> {
     let quantity = Quantity::named(arguments.text("--functional")?)?;
     let radius = arguments.positive("--radius")?;
+    let wish = Wish::of(arguments)?;
+    let matching = Matching::of(arguments)?;
     let love = quantity.love(arguments.path("--love"))?;
-    let (field, kernel) = (load(arguments.operand(0))?, load(arguments.operand(1))?);
-    let mean = try_basin_average(&field, &kernel, &(quantity.functional)(&love), radius.unwrap_or(field.radius))?;
-    Ok(format!("{mean:?}\n"))
+    let whole = minuend(arguments, matching)?;
+    let radius = radius.unwrap_or(whole.radius);
+    check_radius(radius, &whole, arguments.has(ANY_BODY.name))?;
+    let field = Reduction::decide(wish, quantity, &whole, None)?.of(&whole)?;
+    if quantity.is_height() {
+        note("geoid heights are divided by GM/r², as by geoid grid --gamma sphere: no factor of normal gravity");
+    }
+    let over = |path| basin(path, kernel(arguments, path)?, &field, quantity, &love, radius);
+    let basins: Result<Vec<Basin>, Error> = arguments.operands_from(1).map(over).collect();
+    answer(arguments, &basins?, quantity)
+}
+
+/// The field, less another one if an option names it, and cut if one says so.
+fn minuend(arguments: &Arguments, matching: Matching) -> Result<Coefficients, Error> {
+    let path = arguments.operand(0);
+    let first = field(arguments, path)?;
+    let named = Named { path, field: &first };
+    match arguments.path("--minus") {
+        None => matching.alone(named),
+        Some(path) => matching.subtract(named, Named { path, field: &field(arguments, path)? }),
+    }
+}
+
+/// The mean over the basin of a kernel, which is named by the kernel's file.
+fn basin(path: &Path, kernel: Coefficients, field: &Coefficients, quantity: Quantity, love: &Love, radius: f64) -> Result<Basin, Error> {
+    let degree = field.max_degree().min(kernel.max_degree());
+    love.check(degree)?;
+    let mean = try_basin_average(field, &kernel, &(quantity.functional)(&love.numbers), radius)?;
+    let name = path.file_stem().unwrap_or_default().to_string_lossy().into_owned();
+    Ok(Basin { name, mean, share: kernel.try_c(0, 0)?, degree })
+}
+
+/// The number alone, or a table in the answer or in a file.
+fn answer(arguments: &Arguments, basins: &[Basin], quantity: Quantity) -> Result<String, Error> {
+    match (arguments.path("--out").map(PathBuf::from), basins) {
+        (Some(out), _) => {
+            write_whole(&out, table(basins, quantity).as_bytes())?;
+            Ok(format!("{}: {} averages in {}\n", out.display(), basins.len(), quantity.table_unit().0))
+        }
+        (None, [basin]) => Ok(format!("{:?}\n", basin.mean)),
+        (None, _) => Ok(table(basins, quantity)),
+    }
+}
+
+fn table(basins: &[Basin], quantity: Quantity) -> String {
+    let (unit, per_si) = quantity.table_unit();
+    let mut text = format!("name,average ({unit}),share of the sphere,degree used\n");
+    for basin in basins {
+        let _ = writeln!(text, "{},{:?},{:?},{}", quoted(&basin.name), basin.mean * per_si, basin.share, basin.degree);
+    }
+    text
+}
+
+/// A field of a table, in quotation marks where it needs them.
+fn quoted(text: &str) -> String {
+    if text.contains([',', '"', '\n', '\r']) { format!("\"{}\"", text.replace('"', "\"\"")) } else { text.into() }
+}
+
+#[cfg(test)]
+mod tests {
+    use super::quoted;
+
+    #[test]
+    fn names_with_commas_are_quoted() {
+        assert_eq!(quoted("Ob"), "Ob");
+        assert_eq!(quoted("Amur, \"upper\""), "\"Amur, \"\"upper\"\"\"");
+    }
 }

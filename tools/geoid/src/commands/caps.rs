@@ -26,7 +26,8 @@ pub const COMMAND: Command = Command {
         Opt { name: "--out", value: "FILE.csv", help: "write the functions with their coefficients by degree" },
     ],
     details: "An order above 0 stands for two functions, with the cosine and the sine of the order times the longitude.\n\
-              The Shannon number is about how many functions are well concentrated. Degree 180 takes some seconds.\n",
+              The Shannon number is about how many functions are well concentrated. Degree 180 takes some seconds.\n\
+              Where twelve digits of a concentration would say 1, the table says 1 less what it lacks.\n",
     run,
 };
 
@@ -59,9 +60,21 @@ fn table(all: &[Slepian], shown: &[Slepian], degree: usize, angle: f64) -> Strin
         all.len()
     );
     for (rank, function) in (1..).zip(shown) {
-        let _ = writeln!(text, "{rank:>6} {:>6}  {:.12}", function.m, function.concentration);
+        let _ = writeln!(text, "{rank:>6} {:>6}  {}", function.m, share(function.concentration));
     }
     text
+}
+
+/// A concentration with twelve digits or, where those would say 1, what it lacks of 1. Rounding may leave
+/// a little above 1.
+fn share(concentration: f64) -> String {
+    let rest = 1.0 - concentration;
+    match format!("{concentration:.12}") {
+        digits if digits != "1.000000000000" => digits,
+        _ if rest == 0.0 => "1 - 0".to_string(),
+        _ if rest < 0.0 => format!("1 + {:.1e}", -rest),
+        _ => format!("1 - {rest:.1e}"),
+    }
 }
 
 /// One line a function; a degree below its order has an empty field.
@@ -76,4 +89,19 @@ fn csv(functions: &[Slepian], degree: usize) -> String {
         text.push('\n');
     }
     text
+}
+
+#[cfg(test)]
+mod tests {
+    use super::share;
+
+    #[test]
+    fn what_rounds_to_one_says_what_it_lacks() {
+        assert_eq!(share(0.999999999404), "0.999999999404");
+        assert_eq!(share(0.9999999999994), "0.999999999999");
+        assert_eq!(share(1.0 - 2f64.powi(-50)), "1 - 8.9e-16");
+        assert_eq!(share(1.0), "1 - 0");
+        assert_eq!(share(1.0 + 2f64.powi(-52)), "1 + 2.2e-16");
+        assert_eq!(share(0.25), "0.250000000000");
+    }
 }

@@ -1,25 +1,51 @@
-//! `geoid convert`: between ICGEM text and the model file.
+//! `geoid convert`: texts to the model file, and any field to ICGEM text.
 
-use super::Command;
-use crate::arguments::Arguments;
+use geopotential::{Coefficients, MAX_DEGREE};
+
+use super::{ABSENT_AS_ZERO, Command, EPOCH, field_or_kernel};
+use crate::arguments::{Arguments, Opt};
+use crate::body::{ANY_BODY, check_either};
 use crate::error::Error;
-use crate::field_file::{load, pairs, save};
+use crate::field_file::{pairs, save};
 
 pub const COMMAND: Command = Command {
     name: "convert",
-    summary: "ICGEM text (.gfc) to a model file, or back",
-    usage: "IN OUT",
+    summary: "ICGEM or monthly GRACE text to a model file, or a field to ICGEM text (.gfc)",
+    usage: "IN OUT [OPTIONS]",
     operands: &["IN", "OUT"],
-    options: &[],
+    options: &[
+        Opt { name: "--degree", value: "N", help: "cut the field to degree N" },
+        Opt { name: "--gm", value: "G", help: "express the field with another GM, m^3/s^2" },
+        Opt { name: "--radius", value: "R", help: "express the field with another radius, m" },
+        ABSENT_AS_ZERO,
+        EPOCH,
+        ANY_BODY,
+    ],
     details: "IN is known by its content, OUT by its extension: .gfc is ICGEM text, anything else a model file.\n\
-              Every finite number keeps its bits. Pairs that IN leaves out are 0, and are counted on standard error;\n\
-              standard deviations are not kept.\n",
+              Every finite number keeps its bits. A text must have all its pairs, each with as many standard deviations as\n\
+              its key 'errors' says, and a line break at its end; a whole model of the Earth may leave out C(0,0), which is\n\
+              then 1, and degree 1, which is then 0. Standard deviations and dates are not kept. The cut and the other\n\
+              constants are the library's: C(n,m) times (GM/G) (radius/R)^n, so that the potential stays the same.\n",
     run,
 };
 
 fn run(arguments: &Arguments) -> Result<String, Error> {
     let (from, to) = (arguments.operand(0), arguments.operand(1));
-    let field = load(from)?;
+    let field = expressed(arguments, field_or_kernel(arguments, from)?)?;
+    check_either(to, &field, arguments.has(ANY_BODY.name))?;
     save(to, &field)?;
     Ok(format!("{}: degree {}, {} pairs\n", to.display(), field.max_degree(), pairs(&field)))
+}
+
+/// The field, cut and with the constants that the options name.
+fn expressed(arguments: &Arguments, field: Coefficients) -> Result<Coefficients, Error> {
+    let (gm, radius) = (arguments.positive("--gm")?, arguments.positive("--radius")?);
+    let field = match arguments.count("--degree", MAX_DEGREE)? {
+        Some(degree) => field.truncated(degree),
+        None => field,
+    };
+    if gm.is_none() && radius.is_none() {
+        return Ok(field);
+    }
+    Ok(field.rescaled(gm.unwrap_or(field.gm), radius.unwrap_or(field.radius)))
 }

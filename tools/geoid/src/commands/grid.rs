@@ -2,23 +2,26 @@
 
 use std::path::Path;
 
-use geopotential::{Coefficients, MAX_DEGREE};
+use geopotential::{Coefficients, MAX_DEGREE, model_file};
 
-use super::{Command, FUNCTIONAL, LOVE};
+use super::{ABSENT_AS_ZERO, Command, EPOCH, FUNCTIONAL, LOVE, field_file};
 use crate::arguments::{Arguments, Opt};
+use crate::body::{ANY_BODY, check_radius};
 use crate::error::Error;
-use crate::field_file::{has_extension, load};
-use crate::formats;
-use crate::grid::{GLOBE, Nodes, Region, Surface, evaluate};
-use crate::map::{self, Map};
-use crate::normal::{GRS80, NormalGravity};
-use crate::output::{note, write_whole, write_with};
-use crate::png;
-use crate::quantity::Quantity;
+use crate::field_file::{FieldFile, has_extension};
+use crate::finite::strange;
+use crate::grid::{GLOBE, Nodes, Region, Surface, cores, evaluate_by};
+use crate::grid_file::{Format, write};
+use crate::heights::{GAMMA, Heights, W0};
+use crate::normal::NormalGravity;
+use crate::provenance::Provenance;
+use crate::quantity::{Love, Quantity};
+use crate::reduction::{NORMAL, Reduction, Wish, ZERO_DEGREE};
+use crate::rows::{self, Whole};
 
 pub const COMMAND: Command = Command {
     name: "grid",
-    summary: "values on a regular grid, as .csv, .asc (ESRI ASCII grid) or .png (a map)",
+    summary: "values on a regular grid, as .csv, .asc (ESRI ASCII grid), .nc (NetCDF-3) or .png (a map)",
     usage: "FILE --out PATH [OPTIONS]",
     operands: &["FILE"],
     options: &[
@@ -28,59 +31,134 @@ pub const COMMAND: Command = Command {
         FUNCTIONAL,
         Opt { name: "--radius", value: "R", help: "geocentric latitudes on the sphere of R metres; default the field's own radius" },
         Opt { name: "--ellipsoid", value: "grs80|wgs84", help: "geodetic latitudes; each row at its geocentric latitude and radius" },
-        Opt { name: "--normal", value: "grs80|wgs84|none", help: "the normal field to take off; default grs80" },
+        NORMAL,
+        ZERO_DEGREE,
+        GAMMA,
+        W0,
         Opt { name: "--degree", value: "N", help: "cut the field to degree N" },
         LOVE,
-        Opt { name: "--title", value: "TEXT", help: "a map's title; default the functional's name" },
+        ABSENT_AS_ZERO,
+        EPOCH,
+        ANY_BODY,
+        Opt { name: "--title", value: "TEXT", help: "the title of a map, .nc file or .aux.xml; default the functional's name" },
+        Opt { name: "--threads", value: "K", help: "how many threads work side by side; default one a core" },
+        Opt { name: "--rows", value: "FROM/TO", help: "only these rows, counted from 1 in the north, as a piece (--out PIECE.rows)" },
+        Opt { name: "--pieces", value: "FOLDER", help: "put the grid together from the .rows files there, made with the same options" },
     ],
     details: "Rows run from north to south, nodes lie on the region's edges. Files have the library's SI numbers with all\n\
-              their digits; a map shows mGal and E. The normal field (even zonals and degree 0) is rescaled to the field's\n\
-              GM and radius before it is taken off, so degree 0 keeps 1 - GM0/GM. Water heights ignore the radius.\n",
+              their digits; a map shows mGal and E. An .nc file has CF names and its history; beside .csv and .asc stand\n\
+              files with the coordinate system and the history (.aux.xml, .prj). Values that are not finite are counted.\n\
+              The normal field (even zonals and degree 0) is rescaled to the field's GM and radius before it is taken off,\n\
+              so degree 0 keeps 1 - GM0/GM. Water heights ignore the radius.\n\
+              A geoid height is the disturbing potential over GM/r^2 (--gamma sphere), the library's functional, whose\n\
+              rounding margin is proved; --gamma ellipsoid multiplies it by one factor a row, (GM/r^2)/gamma with\n\
+              gamma by Somigliana, and --w0 takes (W - U0)/gamma off it. geoid average has no such factor.\n",
     run,
 };
 
-/// How a grid is written.
-#[derive(Clone, Copy)]
-enum Format {
-    Csv,
-    Esri,
-    Png,
-}
-
 fn run(arguments: &Arguments) -> Result<String, Error> {
     let out = arguments.path("--out").ok_or_else(|| Error::usage("--out PATH is missing; see geoid grid --help"))?;
-    let format = format_of(out)?;
-    let quantity = Quantity::named(arguments.text("--functional")?)?;
-    let nodes = nodes(arguments)?;
-    let normal = normal(arguments)?;
-    let cut = arguments.count("--degree", MAX_DEGREE)?;
-    let surface = surface(arguments)?;
-    let love = quantity.love(arguments.path("--love"))?;
-    let whole = load(arguments.operand(0))?;
-    if !arguments.has("--normal") {
-        note_difference(arguments.operand(0), &whole)?;
+    if arguments.has("--rows") || has_extension(out, "rows") {
+        return piece(arguments, out);
     }
-    let surface = surface.unwrap_or(Surface::Sphere(whole.radius));
-    let field = prepared(&whole, cut, normal)?;
-    let values = evaluate(&field, &(quantity.functional)(&love), &nodes, surface)?;
-    let unit = match format {
-        Format::Csv => write_with(out, |out| formats::csv(&nodes, &values, out)).map(|()| quantity.si_unit),
-        Format::Esri => write_with(out, |out| formats::esri(&nodes, &values, out)).map(|()| quantity.si_unit),
-        Format::Png => {
-            let title = arguments.text("--title")?.unwrap_or(quantity.title);
-            let lines = [source(arguments.operand(0), &field), taken(normal, surface)];
-            write_whole(out, &picture(&nodes, values, quantity, title, &lines)?).map(|()| quantity.unit)
-        }
-    }?;
-    Ok(format!("{}: {} x {} values in {unit}\n", out.display(), nodes.latitudes.len(), nodes.longitudes.len()))
+    let format = Format::of(out)?;
+    let task = Task::of(arguments)?;
+    let values = match arguments.path("--pieces") {
+        Some(folder) => rows::join(folder, task.whole()?)?,
+        None => task.values(&task.nodes, threads(arguments)?)?,
+    };
+    let counted = not_finite(&values);
+    let unit = write(out, format, &task.nodes, values, &task.about)?;
+    Ok(format!("{}: {} x {} values in {unit}{counted}\n", out.display(), task.nodes.latitudes.len(), task.nodes.longitudes.len()))
 }
 
-fn format_of(path: &Path) -> Result<Format, Error> {
-    let formats = [("csv", Format::Csv), ("asc", Format::Esri), ("png", Format::Png)];
-    let found = formats.into_iter().find(|(extension, _)| has_extension(path, extension));
-    found
-        .map(|(_, format)| format)
-        .ok_or_else(|| Error::usage(format!("--out is '{}'; expected a name that ends with .csv, .asc or .png", path.display())))
+/// What the answer adds where some values are not finite.
+fn not_finite(values: &[f64]) -> String {
+    strange(values).map_or(String::new(), |text| format!("; {text}"))
+}
+
+/// Make a piece of the grid: the values of some rows.
+fn piece(arguments: &Arguments, out: &Path) -> Result<String, Error> {
+    let text = match arguments.text("--rows")? {
+        Some(text) if has_extension(out, "rows") && !arguments.has("--pieces") => text,
+        _ => return Err(Error::usage("a piece of a grid takes --rows FROM/TO and --out PIECE.rows together, and no --pieces")),
+    };
+    let task = Task::of(arguments)?;
+    let rows = rows::parse(text, task.nodes.latitudes.len())?;
+    let values = task.values(&task.nodes.rows(rows.clone()), threads(arguments)?)?;
+    rows::write(out, task.whole()?, rows.clone(), &values)?;
+    let (from, to, all) = (rows.start + 1, rows.end, task.nodes.latitudes.len());
+    Ok(format!("{}: rows {from} to {to} of {all}{}\n", out.display(), not_finite(&values)))
+}
+
+fn threads(arguments: &Arguments) -> Result<usize, Error> {
+    match arguments.count("--threads", 1024)? {
+        Some(0) => Err(Error::usage("--threads is 0; expected 1 or more")),
+        count => Ok(count.unwrap_or_else(cores)),
+    }
+}
+
+/// A grid that is to be worked out.
+struct Task {
+    nodes: Nodes,
+    /// The field, cut and less what is taken off.
+    field: Coefficients,
+    love: Love,
+    /// What the values are of that field, and where.
+    about: Provenance,
+}
+
+impl Task {
+    fn of(arguments: &Arguments) -> Result<Task, Error> {
+        let quantity = Quantity::named(arguments.text("--functional")?)?;
+        let nodes = nodes(arguments)?;
+        let wish = Wish::of(arguments)?;
+        let cut = arguments.count("--degree", MAX_DEGREE)?;
+        let surface = surface(arguments)?;
+        let title = arguments.text("--title")?.unwrap_or(quantity.title).to_string();
+        let love = quantity.love(arguments.path("--love"))?;
+        let file = field_file(arguments, arguments.operand(0))?;
+        let whole = file.field.truncated(cut.unwrap_or(MAX_DEGREE));
+        love.check(whole.max_degree())?;
+        let surface = surface.unwrap_or(Surface::Sphere(whole.radius));
+        if let Surface::Sphere(radius) = surface {
+            check_radius(radius, &whole, arguments.has(ANY_BODY.name))?;
+        }
+        let reduction = Reduction::decide(wish, quantity, &whole, surface.ellipsoid())?;
+        let heights = Heights::chosen(arguments, quantity, surface.ellipsoid(), reduction.normal)?;
+        let field = reduction.of(&whole)?;
+        if let Some(heights) = heights {
+            heights.tell(arguments, &field)?;
+        }
+        let source = source(&file, arguments.operand(0), field.max_degree());
+        let history = format!("geoid {}: geoid grid {}", env!("CARGO_PKG_VERSION"), arguments.line);
+        let about = Provenance { quantity, title, source, reduction, heights, surface, history };
+        Ok(Task { nodes, field, love, about })
+    }
+
+    /// The values at some of its nodes, in SI units.
+    fn values(&self, nodes: &Nodes, threads: usize) -> Result<Vec<f64>, Error> {
+        let functional = (self.about.quantity.functional)(&self.love.numbers);
+        let mut values = evaluate_by(threads, &self.field, &functional, nodes, self.about.surface)?;
+        if let Some(heights) = self.about.heights {
+            for (row, &latitude) in values.chunks_mut(nodes.longitudes.len()).zip(&nodes.latitudes) {
+                let (factor, shift) = heights.factor_and_shift(self.field.gm, latitude, self.about.surface.row(latitude).1);
+                row.iter_mut().for_each(|value| *value = *value * factor - shift);
+            }
+        }
+        Ok(values)
+    }
+
+    /// Everything that a value depends on, so that pieces of other grids are known.
+    fn whole(&self) -> Result<Whole, Error> {
+        let model = model_file::write(&self.field)?;
+        let bytes = |numbers: &[f64]| numbers.iter().flat_map(|number| number.to_le_bytes()).collect::<Vec<u8>>();
+        let lists = [&self.nodes.latitudes, &self.nodes.longitudes, &self.love.numbers].map(|list| bytes(list));
+        let names = format!("{} {:?} {:?}", self.about.quantity.name, self.about.surface, self.about.heights);
+        let parts = [model.as_slice(), names.as_bytes()].into_iter().chain(lists.iter().map(Vec::as_slice));
+        let (rows, columns) = (self.nodes.latitudes.len(), self.nodes.longitudes.len());
+        Ok(Whole { fingerprint: rows::fingerprint(parts), rows, columns })
+    }
 }
 
 fn nodes(arguments: &Arguments) -> Result<Nodes, Error> {
@@ -97,65 +175,23 @@ fn step(text: &str) -> Result<f64, Error> {
     }
 }
 
-/// An option's ellipsoid.
-fn named(option: &str, text: &str, expected: &str) -> Result<NormalGravity, Error> {
-    NormalGravity::named(text).ok_or_else(|| Error::usage(format!("{option} is '{text}'; expected {expected}")))
-}
-
-fn normal(arguments: &Arguments) -> Result<Option<NormalGravity>, Error> {
-    match arguments.text("--normal")? {
-        None => Ok(Some(GRS80)),
-        Some("none") => Ok(None),
-        Some(text) => named("--normal", text, "grs80, wgs84 or none").map(Some),
-    }
-}
-
-/// A difference of two fields (a month less a mean) has no mass of its own, so the normal field that is
-/// taken off by default would be all that shows.
-fn note_difference(path: &Path, field: &Coefficients) -> Result<(), Error> {
-    let first = field.try_c(0, 0)?;
-    if (first - 1.0).abs() > 0.5 {
-        note(&format!("{}: its C of degree 0 is {first}, not about 1; --normal none takes no normal field off", path.display()));
-    }
-    Ok(())
-}
-
 /// Where the values are taken, if an option says so.
 fn surface(arguments: &Arguments) -> Result<Option<Surface>, Error> {
     match (arguments.positive("--radius")?, arguments.text("--ellipsoid")?) {
         (Some(_), Some(_)) => Err(Error::usage("--radius and --ellipsoid are both given; expected one of them")),
         (Some(radius), None) => Ok(Some(Surface::Sphere(radius))),
-        (None, Some(text)) => named("--ellipsoid", text, "grs80 or wgs84").map(|ellipsoid| Some(Surface::Ellipsoid(ellipsoid))),
+        (None, Some(text)) => Ok(Some(Surface::Ellipsoid(NormalGravity::of_option("--ellipsoid", text, "grs80 or wgs84")?))),
         (None, None) => Ok(None),
     }
 }
 
-/// The field that is drawn: cut, and less the normal field.
-fn prepared(field: &Coefficients, cut: Option<usize>, normal: Option<NormalGravity>) -> Result<Coefficients, Error> {
-    let field = field.truncated(cut.unwrap_or(MAX_DEGREE));
-    normal.map_or(Ok(field.clone()), |normal| normal.taken_from(&field))
-}
-
-/// The map's file.
-fn picture(nodes: &Nodes, mut values: Vec<f64>, quantity: Quantity, title: &str, lines: &[String; 2]) -> Result<Vec<u8>, Error> {
-    values.iter_mut().for_each(|value| *value *= quantity.per_si);
-    let subtitle = [lines[0].as_str(), lines[1].as_str()];
-    let image = map::draw(&Map { nodes, values: &values, unit: quantity.unit, title, subtitle })?;
-    let description = lines.join("; ");
-    Ok(png::encode(&image, &[("Title", title), ("Description", &description), ("Software", "geoid")]))
-}
-
-fn source(path: &Path, field: &Coefficients) -> String {
-    let name = path.file_name().unwrap_or_default().to_string_lossy();
-    format!("{name}, to degree {}", field.max_degree())
-}
-
-fn taken(normal: Option<NormalGravity>, surface: Surface) -> String {
-    let what = normal.map_or("the field itself".into(), |normal| format!("less the normal field {}", normal.name));
-    match surface {
-        Surface::Sphere(radius) => format!("{what}, on the sphere r = {radius} m"),
-        Surface::Ellipsoid(ellipsoid) => format!("{what}, on the ellipsoid {} (geodetic latitudes)", ellipsoid.name),
-    }
+/// The model's name where it is known and not the file's own, its file, its degree, and the time that it is of.
+fn source(file: &FieldFile, path: &Path, degree: usize) -> String {
+    let names = [path.file_name(), path.file_stem()].map(|name| name.unwrap_or_default().to_string_lossy());
+    let model = file.name.iter().filter(|model| !names.iter().any(|name| name == *model));
+    let model: String = model.map(|name| format!("model {name}, file ")).collect();
+    let time = file.time.iter().map(|time| format!(", of {time}")).collect::<String>();
+    format!("{model}{}, to degree {degree}{time}", names[0])
 }
 
 #[cfg(test)]

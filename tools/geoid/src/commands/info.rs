@@ -1,11 +1,13 @@
 //! `geoid info`: what a field is, and how strong it is at each degree.
 
-use geopotential::{Coefficients, TideSystem};
+use geopotential::Coefficients;
 
-use super::{Command, FUNCTIONAL, LOVE};
+use super::{ABSENT_AS_ZERO, Command, EPOCH, FUNCTIONAL, LOVE};
 use crate::arguments::{Arguments, Opt};
+use crate::body::{ANY_BODY, check_either};
+use crate::difference::tide_name;
 use crate::error::Error;
-use crate::field_file::{load, pairs};
+use crate::field_file::{Choices, FieldFile, pairs, read};
 use crate::plot;
 use crate::quantity::Quantity;
 
@@ -18,29 +20,44 @@ pub const COMMAND: Command = Command {
     summary: "a field's head, its degree amplitudes and a plot of them",
     usage: "FILE [OPTIONS]",
     operands: &["FILE"],
-    options: &[FUNCTIONAL, LOVE, Opt { name: "--all", value: "", help: "every degree in the table, however many there are" }],
+    options: &[
+        FUNCTIONAL,
+        LOVE,
+        Opt { name: "--all", value: "", help: "every degree in the table, however many there are" },
+        ABSENT_AS_ZERO,
+        EPOCH,
+        ANY_BODY,
+    ],
     details: "Amplitudes are those on the field's own reference sphere; 'to here' is the root of the sum of squares\n\
-              from degree 2. Gravity is shown in mGal, gradients in E.\n",
+              from degree 2. Gravity is shown in mGal, gradients in E. The model's name and the time that the field is of\n\
+              are shown where the file tells them.\n",
     run,
 };
 
 fn run(arguments: &Arguments) -> Result<String, Error> {
     let quantity = Quantity::named(arguments.text("--functional")?)?;
     let love = quantity.love(arguments.path("--love"))?;
-    let field = load(arguments.operand(0))?;
-    let mut amplitudes = field.try_degree_amplitudes(&(quantity.functional)(&love))?;
+    let path = arguments.operand(0);
+    let file = read(path, &Choices::of(arguments)?)?;
+    let field = &file.field;
+    check_either(path, field, arguments.has(ANY_BODY.name))?;
+    love.check(field.max_degree())?;
+    let mut amplitudes = field.try_degree_amplitudes(&(quantity.functional)(&love.numbers))?;
     amplitudes.iter_mut().for_each(|amplitude| *amplitude *= quantity.per_si);
     let shown = degrees(field.max_degree(), arguments.has("--all"));
-    Ok(head(&field) + &table(&amplitudes, &shown, quantity) + "\n" + &plot::bars(&amplitudes, quantity.unit))
+    Ok(sayings(&file) + &head(field) + &table(&amplitudes, &shown, quantity) + "\n" + &plot::bars(&amplitudes, quantity.unit))
+}
+
+/// What the file itself says of the field, and what was taken for granted. Control characters are shown as `?`.
+fn sayings(file: &FieldFile) -> String {
+    let name = file.name.iter().map(|name| ("model", name));
+    let time = file.time.iter().map(|time| ("time", time));
+    let notes = file.notes.iter().map(|text| ("note", text));
+    name.chain(time).chain(notes).map(|(label, text)| format!("{label:<13}{}\n", text.replace(char::is_control, "?"))).collect()
 }
 
 fn head(field: &Coefficients) -> String {
-    let tide = match field.tide_system {
-        TideSystem::TideFree => "tide-free",
-        TideSystem::ZeroTide => "zero tide",
-        TideSystem::MeanTide => "mean tide",
-        TideSystem::Unknown => "not stated",
-    };
+    let tide = tide_name(field.tide_system).unwrap_or("not stated");
     format!(
         "GM           {:e} m³/s²\nradius       {} m\ntide system  {tide}\ndegree       {}\npairs        {}\n\n",
         field.gm,

@@ -5,14 +5,24 @@ mod caps;
 mod convert;
 mod grid;
 mod info;
+mod points;
+mod replace;
 mod sample;
+mod smooth;
+mod subtract;
 
 use std::ffi::OsString;
 use std::io::{self, ErrorKind, Write};
+use std::path::Path;
 use std::process::ExitCode;
 
+use geopotential::Coefficients;
+
 use crate::arguments::{Arguments, Opt};
+use crate::body;
 use crate::error::Error;
+use crate::field_file::{Choices, FieldFile, load, read};
+use crate::part_file::catch_signals;
 
 /// A command: how it is called, what its help says, and what runs it. It answers the text for standard
 /// output.
@@ -26,11 +36,23 @@ pub struct Command {
     pub run: fn(&Arguments) -> Result<String, Error>,
 }
 
-const COMMANDS: [&Command; 6] = [&convert::COMMAND, &info::COMMAND, &grid::COMMAND, &average::COMMAND, &caps::COMMAND, &sample::COMMAND];
+const COMMANDS: &[&Command] = &[
+    &convert::COMMAND,
+    &info::COMMAND,
+    &grid::COMMAND,
+    &points::COMMAND,
+    &average::COMMAND,
+    &subtract::COMMAND,
+    &replace::COMMAND,
+    &smooth::COMMAND,
+    &caps::COMMAND,
+    &sample::COMMAND,
+];
 
 /// Run the words of a command line: the answer goes to standard output, an error's one line to
 /// standard error.
 pub fn main(words: Vec<OsString>) -> ExitCode {
+    catch_signals();
     let printed = run(words).and_then(|text| print(&text));
     match printed {
         Ok(()) => ExitCode::SUCCESS,
@@ -78,9 +100,9 @@ fn overview() -> String {
          usage: geoid COMMAND ..., geoid COMMAND --help, geoid --version\n\n",
     );
     for command in COMMANDS {
-        text.push_str(&format!("  {:<9}{}\n", command.name, command.summary));
+        text.push_str(&format!("  {:<10}{}\n", command.name, command.summary));
     }
-    text + "\nA field is a model file or ICGEM text (.gfc); either is known by its first byte.\n"
+    text + "\nA field is a model file, ICGEM text (.gfc) or a monthly text of GRACE (GSM-2, release 06), known by its content.\n"
 }
 
 impl Command {
@@ -106,6 +128,33 @@ impl Command {
     }
 }
 
+/// A field with what its file says of it, its head checked.
+fn field_file(arguments: &Arguments, path: &Path) -> Result<FieldFile, Error> {
+    let file = read(path, &Choices::of(arguments)?)?;
+    file.tell(path);
+    body::check_field(path, &file.field, arguments.has(body::ANY_BODY.name))?;
+    Ok(file)
+}
+
+/// A field from a file, its head checked.
+fn field(arguments: &Arguments, path: &Path) -> Result<Coefficients, Error> {
+    field_file(arguments, path).map(|file| file.field)
+}
+
+/// A field or a kernel from a file, its head checked.
+fn field_or_kernel(arguments: &Arguments, path: &Path) -> Result<Coefficients, Error> {
+    let field = load(path, &Choices::of(arguments)?)?;
+    body::check_either(path, &field, arguments.has(body::ANY_BODY.name))?;
+    Ok(field)
+}
+
+/// A kernel from a file, checked. A basin does not change with time: an epoch is the field's alone.
+fn kernel(arguments: &Arguments, path: &Path) -> Result<Coefficients, Error> {
+    let kernel = load(path, &Choices { epoch: None, ..Choices::of(arguments)? })?;
+    body::check_kernel(path, &kernel)?;
+    Ok(kernel)
+}
+
 /// The option that names a functional, with its values.
 const FUNCTIONAL: Opt = Opt {
     name: "--functional",
@@ -114,4 +163,13 @@ const FUNCTIONAL: Opt = Opt {
 };
 
 /// The option that water heights need.
-const LOVE: Opt = Opt { name: "--love", value: "FILE", help: "load Love numbers for water-height: lines 'n k', n from 0" };
+const LOVE: Opt = Opt {
+    name: "--love",
+    value: "FILE",
+    help: "load Love numbers for water-height: lines 'n k', n rising from 0;\nbetween the n of the file they are linear",
+};
+
+/// The options of every command that reads a field.
+const ABSENT_AS_ZERO: Opt = Opt { name: "--absent-as-zero", value: "", help: "pairs that a text leaves out are 0, not a mistake" };
+const EPOCH: Opt =
+    Opt { name: "--epoch", value: "DATE", help: "when ICGEM coefficients that change with time are taken:\nYYYY-MM-DD or a decimal year" };

@@ -1,7 +1,8 @@
-//! A grid as a printed map: title, coloured field with contours and graticule, frame, colour bar.
+//! A grid as a printed map: title, coloured field with labelled contours and graticule, frame, colour bar.
 
 mod bar;
 mod frame;
+mod labels;
 mod raster;
 mod statistics;
 
@@ -20,7 +21,7 @@ const LARGEST_WIDTH: f64 = 1440.0;
 const LARGEST_HEIGHT: f64 = 900.0;
 const LEAST_WIDTH: usize = 1060;
 /// What stands around the field: title above, colour bar below, labels of latitudes at its left.
-const TOP: usize = 150;
+const TOP: usize = 174;
 const BOTTOM: usize = 170;
 const SIDE: usize = 100;
 /// Text sizes, in doublings of the font: a title's and everything else's.
@@ -34,8 +35,8 @@ pub struct Map<'a> {
     pub values: &'a [f64],
     pub unit: &'a str,
     pub title: &'a str,
-    /// Two lines below the title.
-    pub subtitle: [&'a str; 2],
+    /// The lines below the title.
+    pub subtitle: [&'a str; 3],
 }
 
 /// Draw a map.
@@ -44,7 +45,7 @@ pub fn draw(map: &Map) -> Result<Image, Error> {
         return Err(Error::failure("a map needs two rows and two columns at least; expected a larger region or a smaller step"));
     }
     let statistics = statistics::of(map.nodes, map.values);
-    let colours = Colours::of_range(statistics.least, statistics.largest, statistics.rms);
+    let colours = statistics.as_ref().map_or(Colours::of_range(0.0, 0.0, 0.0), |all| Colours::of_range(all.least, all.largest, all.rms));
     let (width, height) = field_size(map.nodes);
     let page = (width + 2 * SIDE).max(LEAST_WIDTH);
     let mut canvas = Canvas::new(page, height + TOP + BOTTOM, WHITE);
@@ -52,9 +53,12 @@ pub fn draw(map: &Map) -> Result<Image, Error> {
     let contours = raster::draw(&mut canvas, field, map, &colours).then(|| contour_note(&colours, map.unit));
     heading(&mut canvas, map, &contours.unwrap_or_default());
     frame::draw(&mut canvas, field, map.nodes.region);
-    bar::draw(&mut canvas, field, &colours, &Reach { unit: map.unit, least: statistics.least, largest: statistics.largest });
+    if let Some(all) = &statistics {
+        bar::draw(&mut canvas, field, &colours, &Reach { unit: map.unit, least: all.least, largest: all.largest });
+    }
+    let line = statistics.map_or(statistics::NOTHING.to_string(), |all| all.line(map.unit));
     let foot = field.top + field.height + BOTTOM - 36;
-    canvas.text((page / 2, foot), Align::Centre, &fitting(&statistics.line(map.unit), LABEL, page), LABEL, BLACK);
+    canvas.text((page / 2, foot), Align::Centre, &fitting(&line, LABEL, page), LABEL, BLACK);
     Ok(Image { width: canvas.width, height: canvas.height, palette: colours.palette(), pixels: canvas.pixels })
 }
 
@@ -78,7 +82,8 @@ fn heading(canvas: &mut Canvas, map: &Map, note: &str) {
     let (middle, room) = (canvas.width / 2, canvas.width - SIDE / 2);
     let title = format!("{} ({})", map.title, map.unit);
     canvas.text((middle, 22), Align::Centre, &fitting(&title, TITLE, room), TITLE, BLACK);
-    let lines = [map.subtitle[0].to_string(), format!("{}{note}", map.subtitle[1])];
+    let [source, taken, place] = map.subtitle.map(str::to_string);
+    let lines = [source, taken, place + note];
     for (row, line) in lines.iter().enumerate() {
         canvas.text((middle, 70 + 24 * row), Align::Centre, &fitting(line, LABEL, room), LABEL, BLACK);
     }

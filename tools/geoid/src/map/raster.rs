@@ -2,6 +2,7 @@
 
 use super::Map;
 use super::frame::{graticule, place_of};
+use super::labels::{self, Pixels};
 use crate::canvas::{Area, Canvas};
 use crate::colours::{Colours, darker};
 
@@ -28,6 +29,9 @@ pub fn draw(canvas: &mut Canvas, area: Area, map: &Map, colours: &Colours) -> bo
         }
     }
     draw_graticule(canvas, area, map);
+    if apart {
+        labels::draw(canvas, area, &Pixels { values: &values, width: area.width, height: area.height }, colours);
+    }
     apart
 }
 
@@ -64,9 +68,11 @@ fn neighbour(pixel: usize, pixels: usize, nodes: usize) -> (usize, f64) {
 /// The places where a multiple of the step lies between a pixel and the next one, right or below.
 fn contours(values: &[f64], width: usize, step: f64) -> Vec<usize> {
     let band = |place: usize| (values[place] / step).floor();
+    // Beside what is no number there is no contour.
+    let differ = |a: f64, b: f64| a.is_finite() && b.is_finite() && a != b;
     let crossed = |&place: &usize| {
-        let right = (place + 1) % width != 0 && band(place) != band(place + 1);
-        let below = place + width < values.len() && band(place) != band(place + width);
+        let right = (place + 1) % width != 0 && differ(band(place), band(place + 1));
+        let below = place + width < values.len() && differ(band(place), band(place + width));
         right || below
     };
     (0..values.len()).filter(crossed).collect()
