@@ -73,7 +73,7 @@ def promises(source):
     """The public functions of a source file without a requires, each with the text of its ensures."""
     text = source.read_text()
     for found in re.finditer(r'pub (?:extern "C" )?fn (\w+)\(', text):
-        end = re.search(r"\n *\{\n", text[found.end() :])
+        end = re.search(r"\{\n", text[found.end() :])
         contract = text[found.end() : found.end() + end.start()]
         if "ensures" in contract and "requires" not in contract:
             yield found[1], contract[contract.index("ensures") :]
@@ -142,7 +142,7 @@ def kernels(crate):
     for module in [""] + re.findall(r"^pub mod (\w+);", library, re.M):
         text = (crate / f"src/{module or 'lib'}.rt").read_text()
         for found in re.finditer(r"^ *pub fn (\w+)\(", text, re.M):
-            contract = text[found.end() : found.end() + re.search(r"\n *\{\n", text[found.end() :]).start()]
+            contract = text[found.end() : found.end() + re.search(r"\{\n", text[found.end() :]).start()]
             if "requires" in contract:
                 yield f"{module}::{found[1]}" if module else found[1]
 
@@ -154,7 +154,9 @@ def page():
         text += f"| `{call}` | {named or 'the library alone'} |\n"
     text += KERNELS
     for crate in sorted(CRATES.iterdir()):
-        if (crate / "src/lib.rt").exists() and (listed := sorted(kernels(crate))):
+        if crate.name.startswith("replay") or not (crate / "src/lib.rt").exists():
+            continue
+        if listed := sorted(kernels(crate)):
             text += f"| `{crate.name}` | {', '.join(listed)} |\n"
     return text
 
