@@ -63,9 +63,14 @@ impl Date {
         Date { days: (self.days + other.days) / 2.0 }
     }
 
+    /// Days from another date to this one.
+    pub fn days_since(&self, other: Date) -> f64 {
+        self.days - other.days
+    }
+
     /// Years of 365.25 days from another date to this one.
     pub fn years_since(&self, other: Date) -> f64 {
-        (self.days - other.days) / YEAR
+        self.days_since(other) / YEAR
     }
 }
 

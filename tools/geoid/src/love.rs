@@ -5,7 +5,7 @@ use std::path::Path;
 use crate::error::Error;
 use crate::gfc::{number, whole};
 use crate::output::{note, read_whole};
-use crate::text::decoded;
+use crate::text::{Fault, decoded};
 
 /// The largest degree that a file may name: a larger one is a mistake, and its gap would be long.
 const LARGEST: usize = 100_000;
@@ -13,7 +13,7 @@ const LARGEST: usize = 100_000;
 /// The numbers `k'_n` of a file, indexed by degree, with a note where some are interpolated.
 pub fn load(path: &Path) -> Result<Vec<f64>, Error> {
     let bytes = read_whole(path)?;
-    let love = parse(&decoded(&bytes)).map_err(|what| Error::in_file(path, what))?;
+    let love = parse(&decoded(&bytes)).map_err(|fault| fault.in_file(path))?;
     if let Some(first) = love.first_between {
         let count = love.between;
         note(&format!("{}: {count} degrees are not given (the first is {first}); linear between their neighbours", path.display()));
@@ -22,7 +22,7 @@ pub fn load(path: &Path) -> Result<Vec<f64>, Error> {
 }
 
 /// The numbers by degree, and how many of them stand between those of the file.
-#[derive(Debug, Default, PartialEq)]
+#[derive(Debug, Default)]
 struct Love {
     numbers: Vec<f64>,
     between: usize,
@@ -31,14 +31,14 @@ struct Love {
 
 /// Lines `n k`, degrees rising from 0; what stands behind a `#` is a comment. A degree that is left out
 /// has the number on the straight line between its neighbours.
-fn parse(text: &str) -> Result<Love, String> {
+fn parse(text: &str) -> Result<Love, Fault> {
     let mut love = Love::default();
     for (line, content) in (1..).zip(text.lines()) {
         let words: Vec<&str> = content.split('#').next().unwrap_or("").split_whitespace().collect();
         match words[..] {
             [] => {}
-            [degree, value] => love.add(degree, value).map_err(|what| format!("line {line}: {what}"))?,
-            _ => return Err(format!("line {line}: {} words; expected two, a degree and its load Love number", words.len())),
+            [degree, value] => love.add(degree, value).map_err(|what| Fault::at(line, what))?,
+            _ => return Err(Fault::at(line, format!("{} words; expected two, a degree and its load Love number", words.len()))),
         }
     }
     Ok(love)
@@ -67,6 +67,8 @@ impl Love {
 
 #[cfg(test)]
 mod tests {
+    use std::path::Path;
+
     use super::parse;
 
     #[test]
@@ -97,7 +99,7 @@ mod tests {
             ("0 1 2\n", "line 1: 3 words; expected two, a degree and its load Love number"),
         ];
         for (text, expected) in cases {
-            assert_eq!(parse(text), Err(expected.into()));
+            assert_eq!(parse(text).unwrap_err().in_file(Path::new("love")).to_string(), format!("love: {expected}"));
         }
     }
 }

@@ -73,15 +73,14 @@ pub fn load(path: &Path) -> Result<PointList, Error> {
 pub fn check_radii(path: &Path, points: &[Point], places: &[Place], field: &Coefficients) -> Result<(), Error> {
     match points.iter().zip(places).find(|(_, place)| place.radius < crate::body::INSIDE * field.radius) {
         None => Ok(()),
-        Some((point, place)) => Err(Error::in_file(
-            path,
-            format!(
-                "line {}: {} m from the centre, deep below the field's radius {} (metres expected); --any-body takes it as it is",
-                point.number,
+        Some((point, place)) => {
+            let what = format!(
+                "{} m from the centre, deep below the field's radius {} (metres expected); --any-body takes it as it is",
                 place.radius.round(),
                 field.radius
-            ),
-        )),
+            );
+            Err(Fault::at(point.number, what).in_file(path))
+        }
     }
 }
 

@@ -13,6 +13,9 @@ use crate::gfc::number;
 use crate::output::read_whole;
 use crate::text::{Fault, decoded};
 
+/// Solutions that overlap have middles two weeks apart: a field's own days and those of its solution have middles closer than this.
+const NEAR_DAYS: f64 = 7.0;
+
 /// The days of a solution: the first, and the one behind the last.
 #[derive(Clone, Copy, Debug, PartialEq)]
 pub struct Span {
@@ -21,6 +24,11 @@ pub struct Span {
 }
 
 impl Span {
+    /// The moment half way from its first day to its end.
+    pub fn middle(&self) -> Date {
+        self.from.half_way_to(self.to)
+    }
+
     /// Its days in words.
     pub fn line(&self) -> String {
         format!("{} to {}", self.from, self.to)
@@ -42,22 +50,25 @@ pub struct Entry {
 pub enum When {
     /// The one whose middle lies in a month: its first day, and that of the next.
     Month(Date, Date),
-    /// The one in which a moment lies.
-    Moment(Date),
+    /// The one in which a day lies.
+    Day(Date),
+    /// The one of about the same days.
+    Like(Span),
 }
 
 impl When {
     /// What an option's value names: `YYYY-MM`, or a day in the solution, `YYYY-MM-DD`.
     pub fn parse(text: &str) -> Result<When, Error> {
-        let day = || Date::parse(text).ok().filter(|_| text.contains('-')).map(When::Moment);
+        let day = || Date::parse(text).ok().filter(|_| text.contains('-')).map(When::Day);
         let when = Date::month(text).map(|(first, next)| When::Month(first, next)).or_else(day);
         when.ok_or_else(|| Error::usage(format!("--month is '{text}'; expected YYYY-MM, or a day YYYY-MM-DD")))
     }
 
     fn meets(&self, span: Span) -> bool {
         match *self {
-            When::Month(first, next) => (first..next).contains(&span.from.half_way_to(span.to)),
-            When::Moment(moment) => (span.from..span.to).contains(&moment),
+            When::Month(first, next) => (first..next).contains(&span.middle()),
+            When::Day(day) => (span.from..span.to).contains(&day),
+            When::Like(own) => span.middle().days_since(own.middle()).abs() < NEAR_DAYS,
         }
     }
 }
@@ -66,7 +77,8 @@ impl fmt::Display for When {
     fn fmt(&self, f: &mut fmt::Formatter<'_>) -> fmt::Result {
         match self {
             When::Month(first, _) => write!(f, "{:.7}", first.to_string()),
-            When::Moment(moment) => write!(f, "{moment}"),
+            When::Day(day) => write!(f, "{day}"),
+            When::Like(own) => f.write_str(&own.line()),
         }
     }
 }
@@ -161,7 +173,7 @@ mod tests {
 
     #[test]
     fn months_and_days_are_read() {
-        assert!(matches!(when("2008-04"), When::Month(..)) && matches!(when("2008-04-30"), When::Moment(_)));
+        assert!(matches!(when("2008-04"), When::Month(..)) && matches!(when("2008-04-30"), When::Day(_)));
         for text in ["2008-04", "2008-04-30"] {
             assert_eq!(when(text).to_string(), text);
         }
@@ -177,6 +189,9 @@ mod tests {
         assert!(when("2011-12").meets(december) && !when("2012-01").meets(december));
         assert!(when("2012-01-09").meets(december) && !when("2012-01-10").meets(december));
         assert!(when("2012-12").meets(span("2012-12-01", "2013-01-01")));
+        // A field's own days are about those of its solution, and not those of one that overlaps.
+        let own = When::Like(span("2011-12-14", "2012-01-11"));
+        assert!(own.meets(december) && !own.meets(span("2011-12-28", "2012-01-25")));
     }
 
     #[test]

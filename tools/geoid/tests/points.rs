@@ -114,6 +114,16 @@ fn a_difference_of_fields_does_not_turn() {
 }
 
 #[test]
+fn lists_in_latin_1_are_read() {
+    let folder = Folder::new();
+    let [model, list] = ["m.model", "list.csv"].map(|name| folder.file(name));
+    geoid(&["sample", &model, "--degree", "2"]).unwrap();
+    fs::write(&list, b"name,lat,lon,h\nM\xfcnchen,48.1,11.6,520\n").unwrap();
+    let table = geoid(&["points", &model, "--at", &list]).unwrap();
+    assert!(table.lines().nth(1).unwrap().starts_with("München,48.1,11.6,520,"), "{table}");
+}
+
+#[test]
 fn lists_that_are_wrong_are_named() {
     let folder = Folder::new();
     let [model, list] = ["m.model", "list.csv"].map(|name| folder.file(name));

@@ -11,7 +11,7 @@ use crate::body::{ANY_BODY, is_difference};
 use crate::difference::TIDE_AS_IS;
 use crate::error::Error;
 use crate::field_file::{FieldFile, save};
-use crate::technical_note::{Entry, When, load_13, load_14, pick};
+use crate::technical_note::{Entry, Span, When, load_13, load_14, pick};
 
 /// GRACE's own constants, which the notes' coefficients belong to.
 const GM: f64 = 3.986004415e14;
@@ -28,7 +28,7 @@ pub const COMMAND: Command = Command {
         Opt {
             name: "--month",
             value: "YYYY-MM",
-            help: "the month of IN: the solution whose middle lies in it; or YYYY-MM-DD, a day in the solution;\ndefault the middle of IN's own days, which a monthly text of GRACE tells",
+            help: "the month of IN: the solution whose middle lies in it; or YYYY-MM-DD, a day in the solution;\ndefault the solution of IN's own days (middles within a week), which a monthly text of GRACE tells",
         },
         Opt { name: "--c20", value: "FILE", help: "C(2,0) from a file of technical note 14" },
         Opt { name: "--c30", value: "FILE", help: "C(3,0) from a file of technical note 14" },
@@ -49,7 +49,7 @@ fn run(arguments: &Arguments) -> Result<String, Error> {
     let named = arguments.text("--month")?.map(When::parse).transpose()?;
     let (from, to) = (arguments.operand(0), arguments.operand(1));
     let file = field_file(arguments, from)?;
-    let entries = entries(arguments, named.map_or_else(|| own_time(from, &file), Ok)?)?;
+    let entries = entries(arguments, named.map_or_else(|| own_days(from, &file), Ok)?)?;
     let mut field = file.field;
     if is_difference(&field)? {
         return Err(Error::in_file(
@@ -70,10 +70,10 @@ fn run(arguments: &Arguments) -> Result<String, Error> {
     Ok(format!("{}: degree {}, solution of {}\n{text}", to.display(), field.max_degree(), entries[0].span.line()))
 }
 
-/// The middle of the days that a month's own file tells.
-fn own_time(path: &Path, file: &FieldFile) -> Result<When, Error> {
+/// The days that a month's own file tells.
+fn own_days(path: &Path, file: &FieldFile) -> Result<When, Error> {
     let (from, to) = file.span.ok_or_else(|| Error::in_file(path, "does not tell its month; expected --month YYYY-MM"))?;
-    Ok(When::Moment(from.half_way_to(to)))
+    Ok(When::Like(Span { from, to }))
 }
 
 /// The entries that the options ask for.
