@@ -13,6 +13,6 @@ mod tests {
 
     #[test]
     fn the_library_is_of_the_version_that_is_declared() {
-        assert_eq!(super::geopotential_version(), VERSION);
+        assert_eq!(crate::library_version(), VERSION);
     }
 }

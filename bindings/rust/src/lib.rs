@@ -64,3 +64,9 @@ pub use functional::{Functional, RHO_EARTH, RHO_WATER};
 pub use legendre::{Legendre, MAX_DEGREE, gauss_legendre, try_gauss_legendre};
 pub use refusal::Refusal;
 pub use synthesis::{Partials, gauss_grid, try_gauss_grid};
+
+/// The version of the entries of the library that is linked, raised wherever one of them changes its parameters or the meaning of its
+/// answer.
+pub fn library_version() -> u32 {
+    ffi::geopotential_version()
+}

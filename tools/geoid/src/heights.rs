@@ -2,7 +2,8 @@
 //!
 //! The library's height is `T/(GM/r²)`. By the normal gravity γ of an ellipsoid it is the library's times
 //! `(GM/r²)/γ`; by a potential `W₀` of the geoid other than the ellipsoid's `U₀` it is less `(W₀ − U₀)/γ`
-//! (Bruns' formula, Heiskanen & Moritz, §2.17). The margin is proved of the library's number.
+//! (Bruns' formula, Heiskanen & Moritz, §2.17). The margin is proved of the library's number, for coefficients up
+//! to 1 in size.
 
 use geopotential::Coefficients;
 
@@ -84,7 +85,7 @@ impl Heights {
         if let Some(ellipsoid) = self.gamma {
             note(&format!(
                 "heights are the library's times one factor a row, (GM/r²)/γ with γ the normal gravity of {}: \
-                 the margin is proved of the library's, and geoid average has no such factor (--gamma sphere)",
+                 the margin is proved of the library's (coefficients up to 1 in size), and geoid average has no such factor (--gamma sphere)",
                 ellipsoid.name
             ));
         }
