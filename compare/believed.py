@@ -98,7 +98,8 @@ PAGE = """# What a reader must believe
 
 A **public call** is a function that document 01 names, or that stands beside those it names (`root_near`, `partials_along`, the lengths): it has no
 `requires` and answers every input. Every other function is a **kernel**: private where nothing outside its crate uses it; where another crate does,
-it is public to the language, and what it requires is proved at each of its calls. This page is what `compare/believed.py` prints.
+it is public to the language, and what it requires is proved at each of its calls. This page is what `compare/believed.py` prints: it follows names
+through the texts of promises and definitions, and the prover has no part in it.
 
 ## The definitions behind each public call
 
