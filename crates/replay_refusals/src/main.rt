@@ -124,79 +124,56 @@ fn print_tables() {
     );
 }
 
-fn print_heads() {
+fn print_zeros_heads() {
     replay_print::show_words(b"head of zeros ", &models::zeros_head(0), &cases::HEADS, 0);
     replay_print::show_words(b"head of zeros ", &models::zeros_head(1), &cases::HEADS, 4);
+}
+
+// The head of a field of degree 1 with a tide system, cut at `cut`, and the one due at index `at`.
+fn print_truncated_head(tide: usize, cut: usize, at: usize)
+    requires { ⌜ at ≤ 48 ⌝ }
+{
     replay_print::show_words(
         b"head of truncated ",
-        &models::truncated_head(0, 0),
+        &models::truncated_head(tide, cut),
         &cases::HEADS,
-        8,
+        at,
     );
-    replay_print::show_words(
-        b"head of truncated ",
-        &models::truncated_head(1, 0),
-        &cases::HEADS,
-        12,
-    );
-    replay_print::show_words(
-        b"head of truncated ",
-        &models::truncated_head(2, 0),
-        &cases::HEADS,
-        16,
-    );
-    replay_print::show_words(
-        b"head of truncated ",
-        &models::truncated_head(3, 0),
-        &cases::HEADS,
-        20,
-    );
-    replay_print::show_words(
-        b"head of truncated ",
-        &models::truncated_head(0, 1),
-        &cases::HEADS,
-        24,
-    );
-    replay_print::show_words(
-        b"head of truncated ",
-        &models::truncated_head(1, 2),
-        &cases::HEADS,
-        28,
-    );
-    replay_print::show_words(
-        b"head of truncated ",
-        &models::truncated_head(2, 2701),
-        &cases::HEADS,
-        32,
-    );
+}
+
+fn print_truncated_heads() {
+    print_truncated_head(0, 0, 8);
+    print_truncated_head(1, 0, 12);
+    print_truncated_head(2, 0, 16);
+    print_truncated_head(3, 0, 20);
+    print_truncated_head(0, 1, 24);
+    print_truncated_head(1, 2, 28);
+    print_truncated_head(2, 2701, 32);
+}
+
+// The head of a rescaled field with a tide system, and the one due at index `at`.
+fn print_rescaled_head(tide: usize, at: usize)
+    requires { ⌜ at ≤ 48 ⌝ }
+{
     replay_print::show_words(
         b"head of rescaled ",
-        &models::rescaled_head(0),
+        &models::rescaled_head(tide),
         &cases::HEADS,
-        36,
+        at,
     );
-    replay_print::show_words(
-        b"head of rescaled ",
-        &models::rescaled_head(1),
-        &cases::HEADS,
-        40,
-    );
-    replay_print::show_words(
-        b"head of rescaled ",
-        &models::rescaled_head(2),
-        &cases::HEADS,
-        44,
-    );
-    replay_print::show_words(
-        b"head of rescaled ",
-        &models::rescaled_head(3),
-        &cases::HEADS,
-        48,
-    );
+}
+
+fn print_rescaled_heads() {
+    print_rescaled_head(0, 36);
+    print_rescaled_head(1, 40);
+    print_rescaled_head(2, 44);
+    print_rescaled_head(3, 48);
 }
 
 fn main() {
     print_models();
     print_tables();
-    print_heads();
+    print_zeros_heads();
+    print_truncated_heads();
+    print_rescaled_heads();
 }
