@@ -30,251 +30,149 @@ fn show_both(
     }
 }
 
-// A matrix by symmetric_eigen; the lists are those of its size.
-fn rotations(
-    n: usize,
-    a: &[f64],
-    work: &mut [f64],
-    values: &mut [f64],
-    vectors: &mut [f64],
-    due: &[u64],
-    at: usize,
-    first: &[u8],
-    second: &[u8],
-)
-    requires { ⌜ at + length (now values) + length (now vectors) ≤ length (now due) ⌝ ∗ ⌜ length (now first) ≤ 80 ⌝ ∗ ⌜ length (now second) ≤ 80 ⌝ }
+// A matrix of n rows by symmetric_eigen; the lists are those of its size.
+fn rotations(n: usize, a: &[f64], values: &mut [f64], vectors: &mut [f64], due: &[u64], at: usize)
+    requires { ⌜ at + length (now values) + length (now vectors) ≤ length (now due) ⌝ }
 {
-    let answer = linalg::symmetric_eigen(n, a, work, values, vectors);
-    show_both(answer, values, vectors, due, at, first, second);
-}
-
-// A matrix by householder_ql.
-fn reflections(
-    n: usize,
-    a: &[f64],
-    work: &mut [f64],
-    values: &mut [f64],
-    vectors: &mut [f64],
-    due: &[u64],
-    at: usize,
-    first: &[u8],
-    second: &[u8],
-)
-    requires { ⌜ at + length (now values) + length (now vectors) ≤ length (now due) ⌝ ∗ ⌜ length (now first) ≤ 80 ⌝ ∗ ⌜ length (now second) ≤ 80 ⌝ }
-{
-    let answer = linalg::householder_ql(n, a, work, values, vectors);
-    show_both(answer, values, vectors, due, at, first, second);
-}
-
-// Matrix j of 1 row, by rotations.
-fn symmetric_eigen_1(j: usize)
-    requires { ⌜ j < 3 ⌝ }
-{
-    let mut a = [0.0; 1];
-    replay::load(&solvers::MATRICES_1, j, &mut a);
-    let mut work = [0.0; 5];
-    let mut values = [0.0; 1];
-    let mut vectors = [0.0; 1];
-    rotations(
-        1,
-        &a,
-        &mut work,
-        &mut values,
-        &mut vectors,
-        &solvers::SYMMETRIC_EIGEN_1,
-        2 * j,
-        b"symmetric_eigen 1x1 values ",
-        b"symmetric_eigen 1x1 vectors ",
+    let mut work = [0.0; 1292];
+    let answer = linalg::symmetric_eigen(n, a, &mut work, values, vectors);
+    show_both(
+        answer,
+        values,
+        vectors,
+        due,
+        at,
+        b"symmetric_eigen values ",
+        b"symmetric_eigen vectors ",
     );
 }
 
-// Matrix j of 1 row, by reflections.
-fn householder_ql_1(j: usize)
+// A matrix of n rows by householder_ql.
+fn reflections(n: usize, a: &[f64], values: &mut [f64], vectors: &mut [f64], due: &[u64], at: usize)
+    requires { ⌜ at + length (now values) + length (now vectors) ≤ length (now due) ⌝ }
+{
+    let mut work = [0.0; 1292];
+    let answer = linalg::householder_ql(n, a, &mut work, values, vectors);
+    show_both(
+        answer,
+        values,
+        vectors,
+        due,
+        at,
+        b"householder_ql values ",
+        b"householder_ql vectors ",
+    );
+}
+
+// A matrix of n rows and `size` numbers by both calls, whose answers are due from index `at` of two lists.
+fn by_both(n: usize, size: usize, a: &[f64], rotated: &[u64], reflected: &[u64], at: usize)
+    requires { ⌜ n ≤ 34 ⌝ ∗ ⌜ size ≤ 1156 ⌝ ∗ ⌜ at + n + size ≤ length (now rotated) ⌝ ∗ ⌜ at + n + size ≤ length (now reflected) ⌝ }
+{
+    let mut values = [0.0; 34];
+    let mut vectors = [0.0; 1156];
+    rotations(n, a, &mut values[..n], &mut vectors[..size], rotated, at);
+    let mut anew = [0.0; 34];
+    let mut vectors_anew = [0.0; 1156];
+    reflections(
+        n,
+        a,
+        &mut anew[..n],
+        &mut vectors_anew[..size],
+        reflected,
+        at,
+    );
+}
+
+// The matrix of n rows from index `start` of a list, by both calls; a has as many places as it has numbers.
+fn loaded(
+    n: usize,
+    a: &mut [f64],
+    matrices: &[u64],
+    start: usize,
+    rotated: &[u64],
+    reflected: &[u64],
+    at: usize,
+)
+    requires { ⌜ n ≤ 34 ⌝ ∗ ⌜ length (now a) ≤ 1156 ⌝ ∗ ⌜ start + length (now a) ≤ length (now matrices) ⌝
+        ∗ ⌜ at + n + length (now a) ≤ length (now rotated) ⌝ ∗ ⌜ at + n + length (now a) ≤ length (now reflected) ⌝ }
+{
+    replay::load(matrices, start, a);
+    by_both(n, a.len(), a, rotated, reflected, at);
+}
+
+// Matrix j of 1 row.
+fn of_1(j: usize)
     requires { ⌜ j < 3 ⌝ }
 {
     let mut a = [0.0; 1];
-    replay::load(&solvers::MATRICES_1, j, &mut a);
-    let mut work = [0.0; 5];
-    let mut values = [0.0; 1];
-    let mut vectors = [0.0; 1];
-    reflections(
+    loaded(
         1,
-        &a,
-        &mut work,
-        &mut values,
-        &mut vectors,
+        &mut a,
+        &solvers::MATRICES_1,
+        j,
+        &solvers::SYMMETRIC_EIGEN_1,
         &solvers::HOUSEHOLDER_QL_1,
         2 * j,
-        b"householder_ql 1x1 values ",
-        b"householder_ql 1x1 vectors ",
     );
 }
 
-// Matrix j of 2 rows, by rotations.
-fn symmetric_eigen_2(j: usize)
+// Matrix j of 2 rows.
+fn of_2(j: usize)
     requires { ⌜ j < 7 ⌝ }
 {
     let mut a = [0.0; 4];
-    replay::load(&solvers::MATRICES_2, 4 * j, &mut a);
-    let mut work = [0.0; 12];
-    let mut values = [0.0; 2];
-    let mut vectors = [0.0; 4];
-    rotations(
+    loaded(
         2,
-        &a,
-        &mut work,
-        &mut values,
-        &mut vectors,
+        &mut a,
+        &solvers::MATRICES_2,
+        4 * j,
         &solvers::SYMMETRIC_EIGEN_2,
-        6 * j,
-        b"symmetric_eigen 2x2 values ",
-        b"symmetric_eigen 2x2 vectors ",
-    );
-}
-
-// Matrix j of 2 rows, by reflections.
-fn householder_ql_2(j: usize)
-    requires { ⌜ j < 7 ⌝ }
-{
-    let mut a = [0.0; 4];
-    replay::load(&solvers::MATRICES_2, 4 * j, &mut a);
-    let mut work = [0.0; 12];
-    let mut values = [0.0; 2];
-    let mut vectors = [0.0; 4];
-    reflections(
-        2,
-        &a,
-        &mut work,
-        &mut values,
-        &mut vectors,
         &solvers::HOUSEHOLDER_QL_2,
         6 * j,
-        b"householder_ql 2x2 values ",
-        b"householder_ql 2x2 vectors ",
     );
 }
 
-// Matrix j of 3 rows, by rotations.
-fn symmetric_eigen_3(j: usize)
+// Matrix j of 3 rows.
+fn of_3(j: usize)
     requires { ⌜ j < 2 ⌝ }
 {
     let mut a = [0.0; 9];
-    replay::load(&solvers::MATRICES_3, 9 * j, &mut a);
-    let mut work = [0.0; 21];
-    let mut values = [0.0; 3];
-    let mut vectors = [0.0; 9];
-    rotations(
+    loaded(
         3,
-        &a,
-        &mut work,
-        &mut values,
-        &mut vectors,
+        &mut a,
+        &solvers::MATRICES_3,
+        9 * j,
         &solvers::SYMMETRIC_EIGEN_3,
-        12 * j,
-        b"symmetric_eigen 3x3 values ",
-        b"symmetric_eigen 3x3 vectors ",
-    );
-}
-
-// Matrix j of 3 rows, by reflections.
-fn householder_ql_3(j: usize)
-    requires { ⌜ j < 2 ⌝ }
-{
-    let mut a = [0.0; 9];
-    replay::load(&solvers::MATRICES_3, 9 * j, &mut a);
-    let mut work = [0.0; 21];
-    let mut values = [0.0; 3];
-    let mut vectors = [0.0; 9];
-    reflections(
-        3,
-        &a,
-        &mut work,
-        &mut values,
-        &mut vectors,
         &solvers::HOUSEHOLDER_QL_3,
         12 * j,
-        b"householder_ql 3x3 values ",
-        b"householder_ql 3x3 vectors ",
     );
 }
 
-// The matrix of 4 rows, by rotations.
-fn symmetric_eigen_4() {
+// The matrix of 4 rows.
+fn of_4() {
     let mut a = [0.0; 16];
-    replay::load(&solvers::MATRICES_4, 0, &mut a);
-    let mut work = [0.0; 32];
-    let mut values = [0.0; 4];
-    let mut vectors = [0.0; 16];
-    rotations(
+    loaded(
         4,
-        &a,
-        &mut work,
-        &mut values,
-        &mut vectors,
-        &solvers::SYMMETRIC_EIGEN_4,
+        &mut a,
+        &solvers::MATRICES_4,
         0,
-        b"symmetric_eigen 4x4 values ",
-        b"symmetric_eigen 4x4 vectors ",
-    );
-}
-
-// The matrix of 4 rows, by reflections.
-fn householder_ql_4() {
-    let mut a = [0.0; 16];
-    replay::load(&solvers::MATRICES_4, 0, &mut a);
-    let mut work = [0.0; 32];
-    let mut values = [0.0; 4];
-    let mut vectors = [0.0; 16];
-    reflections(
-        4,
-        &a,
-        &mut work,
-        &mut values,
-        &mut vectors,
+        &solvers::SYMMETRIC_EIGEN_4,
         &solvers::HOUSEHOLDER_QL_4,
         0,
-        b"householder_ql 4x4 values ",
-        b"householder_ql 4x4 vectors ",
     );
 }
 
-// The matrix of 5 rows, by rotations.
-fn symmetric_eigen_5() {
+// The matrix of 5 rows.
+fn of_5() {
     let mut a = [0.0; 25];
-    replay::load(&solvers::MATRICES_5, 0, &mut a);
-    let mut work = [0.0; 45];
-    let mut values = [0.0; 5];
-    let mut vectors = [0.0; 25];
-    rotations(
+    loaded(
         5,
-        &a,
-        &mut work,
-        &mut values,
-        &mut vectors,
-        &solvers::SYMMETRIC_EIGEN_5,
+        &mut a,
+        &solvers::MATRICES_5,
         0,
-        b"symmetric_eigen 5x5 values ",
-        b"symmetric_eigen 5x5 vectors ",
-    );
-}
-
-// The matrix of 5 rows, by reflections.
-fn householder_ql_5() {
-    let mut a = [0.0; 25];
-    replay::load(&solvers::MATRICES_5, 0, &mut a);
-    let mut work = [0.0; 45];
-    let mut values = [0.0; 5];
-    let mut vectors = [0.0; 25];
-    reflections(
-        5,
-        &a,
-        &mut work,
-        &mut values,
-        &mut vectors,
+        &solvers::SYMMETRIC_EIGEN_5,
         &solvers::HOUSEHOLDER_QL_5,
         0,
-        b"householder_ql 5x5 values ",
-        b"householder_ql 5x5 vectors ",
     );
 }
 
@@ -297,253 +195,78 @@ fn side(i: usize) -> f64 {
     ((5 * (i % 17)) % 17) as f64 - 8.0
 }
 
-// The dense matrix of 5 rows, by symmetric_eigen.
-fn symmetric_eigen_dense_5() {
-    let mut a = [0.0; 25];
-    dense(5, &mut a);
-    let mut work = [0.0; 45];
-    let mut values = [0.0; 5];
-    let mut vectors = [0.0; 25];
-    rotations(
-        5,
-        &a,
-        &mut work,
-        &mut values,
-        &mut vectors,
-        &solvers::SYMMETRIC_EIGEN_DENSE_5,
-        0,
-        b"symmetric_eigen 5x5 dense values ",
-        b"symmetric_eigen 5x5 dense vectors ",
-    );
-}
-
-// The dense matrix of 5 rows, by householder_ql.
-fn householder_ql_dense_5() {
-    let mut a = [0.0; 25];
-    dense(5, &mut a);
-    let mut work = [0.0; 45];
-    let mut values = [0.0; 5];
-    let mut vectors = [0.0; 25];
-    reflections(
-        5,
-        &a,
-        &mut work,
-        &mut values,
-        &mut vectors,
-        &solvers::HOUSEHOLDER_QL_DENSE_5,
-        0,
-        b"householder_ql 5x5 dense values ",
-        b"householder_ql 5x5 dense vectors ",
-    );
-}
-
-// The dense matrix of 34 rows, by symmetric_eigen.
-fn symmetric_eigen_dense_34() {
-    let mut a = [0.0; 1156];
-    dense(34, &mut a);
-    let mut work = [0.0; 1292];
-    let mut values = [0.0; 34];
-    let mut vectors = [0.0; 1156];
-    rotations(
-        34,
-        &a,
-        &mut work,
-        &mut values,
-        &mut vectors,
-        &solvers::DENSE_34,
-        0,
-        b"symmetric_eigen 34x34 dense values ",
-        b"symmetric_eigen 34x34 dense vectors ",
-    );
-}
-
-// The dense matrix of 34 rows, by householder_ql.
-fn householder_ql_dense_34() {
-    let mut a = [0.0; 1156];
-    dense(34, &mut a);
-    let mut work = [0.0; 1292];
-    let mut values = [0.0; 34];
-    let mut vectors = [0.0; 1156];
-    reflections(
-        34,
-        &a,
-        &mut work,
-        &mut values,
-        &mut vectors,
-        &solvers::DENSE_34,
-        0,
-        b"householder_ql 34x34 dense values ",
-        b"householder_ql 34x34 dense vectors ",
-    );
-}
-
-// The values alone.
-fn show_values(name: &[u8], answer: Answer, values: &[f64], due: &[u64])
-    requires { ⌜ length (now values) ≤ length (now due) ⌝ ∗ ⌜ length (now name) ≤ 80 ⌝ }
+// The dense matrix of n rows by both calls; a has as many places as it has numbers.
+fn of_dense(n: usize, a: &mut [f64], rotated: &[u64], reflected: &[u64])
+    requires { ⌜ 0 < n ⌝ ∗ ⌜ n ≤ 34 ⌝ ∗ ⌜ length (now a) ≤ 1156 ⌝ ∗ ⌜ n + length (now a) ≤ length (now rotated) ⌝
+        ∗ ⌜ n + length (now a) ≤ length (now reflected) ⌝ }
 {
-    match answer {
-        Answer::Done => show(name, values, due, 0),
+    dense(n, a);
+    by_both(n, a.len(), a, rotated, reflected, 0);
+}
+
+// The values of n rows of ones by symmetric_eigen; a has as many places as they have numbers, and values one for each row.
+fn of_ones(n: usize, a: &[f64], values: &mut [f64], due: &[u64])
+    requires { ⌜ length (now values) ≤ length (now due) ⌝ }
+{
+    let mut work = [0.0; 1221];
+    let mut vectors = [0.0; 1089];
+    match linalg::symmetric_eigen(n, a, &mut work, values, &mut vectors) {
+        Answer::Done => show(b"symmetric_eigen ones values ", values, due, 0),
         Answer::Refused(_) => {
             io::write_all(1, b"refused\n");
         }
     }
 }
 
-// 27 rows of ones.
-fn ones_27() {
-    let a = [1.0; 729];
-    let mut work = [0.0; 837];
-    let mut values = [0.0; 27];
-    let mut vectors = [0.0; 729];
-    let answer = linalg::symmetric_eigen(27, &a, &mut work, &mut values, &mut vectors);
-    show_values(
-        b"symmetric_eigen 27x27 ones values ",
-        answer,
-        &values,
-        &solvers::ONES_27,
-    );
-}
-
-// 28 rows of ones.
-fn ones_28() {
-    let a = [1.0; 784];
-    let mut work = [0.0; 896];
-    let mut values = [0.0; 28];
-    let mut vectors = [0.0; 784];
-    let answer = linalg::symmetric_eigen(28, &a, &mut work, &mut values, &mut vectors);
-    show_values(
-        b"symmetric_eigen 28x28 ones values ",
-        answer,
-        &values,
-        &solvers::ONES_28,
-    );
-}
-
-// 29 rows of ones.
-fn ones_29() {
-    let a = [1.0; 841];
-    let mut work = [0.0; 957];
-    let mut values = [0.0; 29];
-    let mut vectors = [0.0; 841];
-    let answer = linalg::symmetric_eigen(29, &a, &mut work, &mut values, &mut vectors);
-    show_values(
-        b"symmetric_eigen 29x29 ones values ",
-        answer,
-        &values,
-        &solvers::ONES_29,
-    );
-}
-
-// 30 rows of ones.
-fn ones_30() {
-    let a = [1.0; 900];
-    let mut work = [0.0; 1020];
-    let mut values = [0.0; 30];
-    let mut vectors = [0.0; 900];
-    let answer = linalg::symmetric_eigen(30, &a, &mut work, &mut values, &mut vectors);
-    show_values(
-        b"symmetric_eigen 30x30 ones values ",
-        answer,
-        &values,
-        &solvers::ONES_30,
-    );
-}
-
-// 31 rows of ones.
-fn ones_31() {
-    let a = [1.0; 961];
-    let mut work = [0.0; 1085];
-    let mut values = [0.0; 31];
-    let mut vectors = [0.0; 961];
-    let answer = linalg::symmetric_eigen(31, &a, &mut work, &mut values, &mut vectors);
-    show_values(
-        b"symmetric_eigen 31x31 ones values ",
-        answer,
-        &values,
-        &solvers::ONES_31,
-    );
-}
-
-// 32 rows of ones: the most that rotations take.
-fn ones_32() {
-    let a = [1.0; 1024];
-    let mut work = [0.0; 1152];
-    let mut values = [0.0; 32];
-    let mut vectors = [0.0; 1024];
-    let answer = linalg::symmetric_eigen(32, &a, &mut work, &mut values, &mut vectors);
-    show_values(
-        b"symmetric_eigen 32x32 ones values ",
-        answer,
-        &values,
-        &solvers::ONES_32,
-    );
-}
-
-// 33 rows of ones: the fewest that reflections take.
-fn ones_33() {
+fn ones(n: usize, size: usize, due: &[u64])
+    requires { ⌜ n ≤ 33 ⌝ ∗ ⌜ size ≤ 1089 ⌝ ∗ ⌜ n ≤ length (now due) ⌝ }
+{
     let a = [1.0; 1089];
-    let mut work = [0.0; 1221];
     let mut values = [0.0; 33];
-    let mut vectors = [0.0; 1089];
-    let answer = linalg::symmetric_eigen(33, &a, &mut work, &mut values, &mut vectors);
-    show_values(
-        b"symmetric_eigen 33x33 ones values ",
-        answer,
-        &values,
-        &solvers::ONES_33,
-    );
+    of_ones(n, &a[..size], &mut values[..n], due);
 }
 
-fn small() {
-    symmetric_eigen_1(0);
-    householder_ql_1(0);
-    symmetric_eigen_1(1);
-    householder_ql_1(1);
-    symmetric_eigen_1(2);
-    householder_ql_1(2);
-    symmetric_eigen_2(0);
-    householder_ql_2(0);
-    symmetric_eigen_2(1);
-    householder_ql_2(1);
-    symmetric_eigen_2(2);
-    householder_ql_2(2);
-    symmetric_eigen_2(3);
-    householder_ql_2(3);
-    symmetric_eigen_2(4);
-    householder_ql_2(4);
-    symmetric_eigen_2(5);
-    householder_ql_2(5);
-    symmetric_eigen_2(6);
-    householder_ql_2(6);
-    symmetric_eigen_3(0);
-    householder_ql_3(0);
-    symmetric_eigen_3(1);
-    householder_ql_3(1);
-    symmetric_eigen_4();
-    householder_ql_4();
-    symmetric_eigen_5();
-    householder_ql_5();
+fn all_listed() {
+    of_1(0);
+    of_1(1);
+    of_1(2);
+    of_2(0);
+    of_2(1);
+    of_2(2);
+    of_2(3);
+    of_2(4);
+    of_2(5);
+    of_2(6);
+    of_3(0);
+    of_3(1);
+    of_4();
+    of_5();
 }
 
 fn all_dense() {
-    symmetric_eigen_dense_5();
-    householder_ql_dense_5();
-    symmetric_eigen_dense_34();
-    householder_ql_dense_34();
+    let mut a = [0.0; 25];
+    of_dense(
+        5,
+        &mut a,
+        &solvers::SYMMETRIC_EIGEN_DENSE_5,
+        &solvers::HOUSEHOLDER_QL_DENSE_5,
+    );
+    let mut large = [0.0; 1156];
+    of_dense(34, &mut large, &solvers::DENSE_34, &solvers::DENSE_34);
 }
 
 fn all_ones() {
-    ones_27();
-    ones_28();
-    ones_29();
-    ones_30();
-    ones_31();
-    ones_32();
-    ones_33();
+    ones(27, 729, &solvers::ONES_27);
+    ones(28, 784, &solvers::ONES_28);
+    ones(29, 841, &solvers::ONES_29);
+    ones(30, 900, &solvers::ONES_30);
+    ones(31, 961, &solvers::ONES_31);
+    ones(32, 1024, &solvers::ONES_32);
+    ones(33, 1089, &solvers::ONES_33);
 }
 
 fn main() {
-    small();
+    all_listed();
     all_dense();
     all_ones();
 }
