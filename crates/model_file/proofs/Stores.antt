@@ -46,8 +46,8 @@ store-two d at x = refl
 
 -- ---- the loop that reads the pairs: what is stored, with what is still to come
 
-pub words-start : (b d : List ℕ) (count p : ℕ) → store 0 (wordsAt b (count - 0) p) d ≡ store 0 (wordsAt b count p) d
-words-start b d count p = let n : count - 0 ≡ count = omega arith in rw n refl
+pub words-start : (b d : List ℕ) (count p q : ℕ) → p ≡ q → store 0 (wordsAt b (count - 0) p) d ≡ store 0 (wordsAt b count q) d
+words-start b d count p q e = let n : count - 0 ≡ count = omega arith in rw (n, e) refl
 
 pub words-turn : (b d : List ℕ) (k count p q v : ℕ) → k < count → v ≡ numberAt 8 b p → q ≡ p + 17
     → store (k + 1) (wordsAt b (count - (k + 1)) q) (set d k v) ≡ store k (wordsAt b (count - k) p) d

@@ -14,6 +14,9 @@ ghost use Rattle.model_file.specs.LittleEndian.{bytesOf, numberAt, words
 ghost use Rattle.model_file.specs.Format.{headOf, bodyOf, parse, headBytes, pairBytes, recordBytes, render};
 ghost use Rattle.model_file.specs.Answers.{readOutcome, readingNumber, verdictOf, readAnswer, cOf, sOf, writeAnswer};
 
+// The bytes of a head's record, kind and body; the pairs stand behind it.
+const HEAD_SIZE: usize = 20;
+
 // A file's head. gm and radius are the bit patterns of doubles.
 pub struct FileHead {
     pub gm: u64,
@@ -111,11 +114,11 @@ pub fn head(bytes: &[u8]) -> Reading
     })
 }
 
-// Whether `count` pairs and an end, and nothing more, stand behind the head.
-fn check_body(bytes: &[u8], count: usize) -> Answer
-    ensures { λ r. ⌜ r ≡ bodyOf (now (bytes .entry)) count 20 ⌝ }
+// Whether `count` pairs and an end, and nothing more, stand from `start` on, behind the head.
+fn check_body(bytes: &[u8], count: usize, start: usize) -> Answer
+    ensures { λ r. ⌜ r ≡ bodyOf (now (bytes .entry)) count start ⌝ }
 {
-    let mut at = 20;
+    let mut at = start;
     let mut left = count;
     while 0 < left {
         if bytes.len() <= at {
@@ -144,14 +147,14 @@ fn check_body(bytes: &[u8], count: usize) -> Answer
     Answer::Done
 }
 
-// Stores the numbers of `count` pairs at the front of the two lists.
-fn read_pairs(bytes: &[u8], count: usize, c: &mut [u64], s: &mut [u64])
-    requires { ⌜ (20 + 17 * count ≤ length (now bytes)) × (count ≤ length (now c)) × (count ≤ length (now s)) ⌝ }
-    ensures { λ _. ⌜ now (c .exit) ≡ store 0 (wordsAt (now (bytes .entry)) count 21) (now (c .entry)) ⌝ }
-    ensures { λ _. ⌜ now (s .exit) ≡ store 0 (wordsAt (now (bytes .entry)) count 29) (now (s .entry)) ⌝ }
+// Stores the numbers of `count` pairs, whose records stand from `start` on, at the front of the two lists.
+fn read_pairs(bytes: &[u8], count: usize, start: usize, c: &mut [u64], s: &mut [u64])
+    requires { ⌜ (start + 17 * count ≤ length (now bytes)) × (count ≤ length (now c)) × (count ≤ length (now s)) ⌝ }
+    ensures { λ _. ⌜ now (c .exit) ≡ store 0 (wordsAt (now (bytes .entry)) count (start + 1)) (now (c .entry)) ⌝ }
+    ensures { λ _. ⌜ now (s .exit) ≡ store 0 (wordsAt (now (bytes .entry)) count (start + 9)) (now (s .entry)) ⌝ }
 {
     let mut k = 0;
-    let mut at = 21;
+    let mut at = start + 1;
     while k < count {
         c[k] = read_word(bytes, at);
         s[k] = read_word(bytes, at + 8);
@@ -168,7 +171,7 @@ pub fn verdict(bytes: &[u8]) -> Answer
         Reading::Refused(e) => Answer::Refused(e),
         Reading::Model(h) => {
             let nmax = h.nmax;
-            check_body(bytes, storage::table_size(nmax))
+            check_body(bytes, storage::table_size(nmax), HEAD_SIZE)
         }
     }
 }
@@ -184,7 +187,7 @@ pub fn read(bytes: &[u8], c: &mut [u64], s: &mut [u64]) -> Reading
         Reading::Model(h) => {
             let nmax = h.nmax;
             let count = storage::table_size(nmax);
-            match check_body(bytes, count) {
+            match check_body(bytes, count, HEAD_SIZE) {
                 Answer::Refused(e) => Reading::Refused(e),
                 Answer::Done => {
                     if c.len() < count {
@@ -193,7 +196,7 @@ pub fn read(bytes: &[u8], c: &mut [u64], s: &mut [u64]) -> Reading
                     if s.len() < count {
                         return Reading::Refused(Refusal::Space);
                     }
-                    read_pairs(bytes, count, c, s);
+                    read_pairs(bytes, count, HEAD_SIZE, c, s);
                     Reading::Model(h)
                 }
             }
@@ -257,13 +260,13 @@ fn write_head(out: &mut [u8], head: FileHead)
     write_degree(out, 18, nmax as u64);
 }
 
-// Stores the pairs and the end behind the head.
-fn write_body(out: &mut [u8], c: &[u64], s: &[u64])
-    requires { ⌜ (length (now c) ≡ length (now s)) × (21 + 17 * length (now c) ≤ length (now out)) ⌝ }
-    ensures { λ _. ⌜ now (out .exit) ≡ store 20 (recordBytes (now (c .entry)) (now (s .entry))) (now (out .entry)) ⌝ }
+// Stores the pairs and the end from `start` on, behind the head.
+fn write_body(out: &mut [u8], c: &[u64], s: &[u64], start: usize)
+    requires { ⌜ (length (now c) ≡ length (now s)) × (start + 17 * length (now c) < length (now out)) ⌝ }
+    ensures { λ _. ⌜ now (out .exit) ≡ store start (recordBytes (now (c .entry)) (now (s .entry))) (now (out .entry)) ⌝ }
 {
     let mut k = 0;
-    let mut at = 20;
+    let mut at = start;
     while k < c.len() {
         write_pair(out, at, c[k], s[k]);
         at += 17;
@@ -292,6 +295,6 @@ pub fn write(head: FileHead, c: &[u64], s: &[u64], out: &mut [u8]) -> Answer
         return Answer::Refused(Refusal::Space);
     }
     write_head(out, head);
-    write_body(out, c, s);
+    write_body(out, c, s, HEAD_SIZE);
     Answer::Done
 }

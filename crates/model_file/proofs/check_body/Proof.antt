@@ -6,10 +6,10 @@ use Rattle.model_file.proofs.check_body.Statement.{statement}
 use Rattle.model_file.proofs.check_body.Tie as tie
 
 abbrev Inv-loop : tie.InvT-loop
-Inv-loop bytes count at₀ left₀ at left = bodyOf bytes left at ≡ bodyOf bytes count 20
+Inv-loop bytes count start at₀ left₀ at left = bodyOf bytes left at ≡ bodyOf bytes count start
 
 abbrev μ-loop : tie.MeasureT-loop
-μ-loop bytes count at₀ left₀ at left = left
+μ-loop bytes count start at₀ left₀ at left = left
 
 loop-holds : tie.Need-loop-holds Inv-loop μ-loop
 loop-holds c = refl

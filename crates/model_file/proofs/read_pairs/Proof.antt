@@ -12,13 +12,13 @@ use Rattle.model_file.proofs.read_pairs.Statement.{statement}
 use Rattle.model_file.proofs.read_pairs.Tie as tie
 
 abbrev Inv-loop : tie.InvT-loop
-Inv-loop bytes count c₀ s₀ k₀ at₀ c s k at =
-    (k ≤ count) × (at ≡ 21 + 17 * k) × (length c ≡ length c₀) × (length s ≡ length s₀) ×
-    (store k (wordsAt bytes (count - k) at) c ≡ store 0 (wordsAt bytes count 21) c₀) ×
-    (store k (wordsAt bytes (count - k) (at + 8)) s ≡ store 0 (wordsAt bytes count 29) s₀)
+Inv-loop bytes count start c₀ s₀ k₀ at₀ c s k at =
+    (k ≤ count) × (at ≡ start + 1 + 17 * k) × (length c ≡ length c₀) × (length s ≡ length s₀) ×
+    (store k (wordsAt bytes (count - k) at) c ≡ store 0 (wordsAt bytes count (start + 1)) c₀) ×
+    (store k (wordsAt bytes (count - k) (at + 8)) s ≡ store 0 (wordsAt bytes count (start + 9)) s₀)
 
 abbrev μ-loop : tie.MeasureT-loop
-μ-loop bytes count c₀ s₀ k₀ at₀ c s k at = count - k
+μ-loop bytes count start c₀ s₀ k₀ at₀ c s k at = count - k
 
 loop-holds : tie.Need-loop-holds Inv-loop μ-loop
 loop-holds c =
@@ -27,8 +27,8 @@ loop-holds c =
       (omega arith),
       refl,
       refl,
-      words-start (a .bytes .now) (a .c .now) (a .count) 21,
-      words-start (a .bytes .now) (a .s .now) (a .count) 29,
+      words-start (a .bytes .now) (a .c .now) (a .count) (a .start + 1) (a .start + 1) refl,
+      words-start (a .bytes .now) (a .s .now) (a .count) (a .start + 1 + 8) (a .start + 9) (omega arith),
     )
 
 loop-again : tie.Need-loop-again Inv-loop μ-loop
@@ -56,6 +56,6 @@ returns c =
 pub read-pairs-spec : {M : Type 1} → statement M
 read-pairs-spec =
     tie.close
-    (tie.spec Inv-loop μ-loop loop-holds (λ c κs. omega arith) (λ c. omega arith) (λ c. omega arith) (λ c. omega arith) (λ c κs. omega arith)
+    (tie.spec Inv-loop μ-loop (λ c. omega arith) loop-holds (λ c κs. omega arith) (λ c. omega arith) (λ c. omega arith) (λ c. omega arith) (λ c κs. omega arith)
     (λ c. omega arith) (λ c. omega arith) (λ c. omega arith) (λ c. omega arith) (λ c. omega arith) loop-again (λ c. search needs) (λ c. search needs)
     returns)

@@ -12,15 +12,15 @@ use Rattle.model_file.proofs.write_body.Statement.{statement}
 use Rattle.model_file.proofs.write_body.Tie as tie
 
 abbrev Inv-loop : tie.InvT-loop
-Inv-loop out₀ c s k₀ at₀ out k at =
-    (k ≤ length c) × (at ≡ 20 + 17 * k) × (length out ≡ length out₀) × (store at (recordBytes (drop k c) (drop k s)) out ≡
-    store 20 (recordBytes c s) out₀)
+Inv-loop out₀ c s start k₀ at₀ out k at =
+    (k ≤ length c) × (at ≡ start + 17 * k) × (length out ≡ length out₀) × (store at (recordBytes (drop k c) (drop k s)) out ≡
+    store start (recordBytes c s) out₀)
 
 abbrev μ-loop : tie.MeasureT-loop
-μ-loop out₀ c s k₀ at₀ out k at = length c - k
+μ-loop out₀ c s start k₀ at₀ out k at = length c - k
 
 loop-holds : tie.Need-loop-holds Inv-loop μ-loop
-loop-holds c = ((omega arith), refl, refl, refl)
+loop-holds c = ((omega arith), omega arith, refl, refl)
 
 loop-again : tie.Need-loop-again Inv-loop μ-loop
 loop-again c =
