@@ -1,9 +1,9 @@
 -- Demand 3's words at fixed numbers, so that none of its definitions can change unnoticed: what is at most 1 in size, F, the two powers of two, a
 -- grid's terms, and values that miss their margins. Assumes nothing.
 use mathlib.Core.Path.{_≡_, refl}
-use mathlib.Core.Bool.{false}
 use mathlib.Core.List.{[], _∷_}
 use Prim.Native.Nat.{ℕ, _*_, _^_}
+use native.Mathlib.Omega.{arith}
 use lib.IntN.{pos, negℤ}
 use lib.Dec.{leb, leb→le, le→leb}
 use lib.Ieee.{Float, binary64, ofBits}
@@ -11,7 +11,7 @@ use Rattle.number.specs.Float64.{double, zero64, one64}
 use Rattle.number.specs.Units.{unitsOf}
 use Rattle.rounding.specs.Units.{exact}
 use Rattle.rounding.specs.Sums.{lineTotal, triangleTotal, lineTotalℤ, triangleTotalℤ}
-use Rattle.rounding.specs.Margins.{oneInUnits, largestFactor, AtMostOne}
+use Rattle.rounding.specs.Margins.{oneInUnits, largestFactor, AtMostOne, TableAtMostOne, LineAtMostOne}
 use Rattle.rounding.specs.Margins.{averageRelative, averageAbsolute, averageTermC, averageTermS, averagePair, averagePairSize, AverageWithin}
 use Rattle.rounding.specs.Margins.{gridRelative, gridAbsolute, gridTermC, gridTermS, gridPair, gridPairSize, GridWithin}
 use Rattle.rounding.specs.Examples.{constant, line}
@@ -25,9 +25,26 @@ one-at-most-one : AtMostOne one64
 unfolding unitsOf oneInUnits ofBits
 one-at-most-one = leb→le (2 ^ 1074) (2 ^ 1074) tt
 
-next-above-one : leb (unitsOf binary64 (double 0x3ff0_0000_0000_0001)) oneInUnits ≡ false
+-- the double behind 1.0
+abbrev next : Float
+next = double 0x3ff0_0000_0000_0001
+
+pub next-above-one : AtMostOne next → ⊥
 unfolding unitsOf oneInUnits ofBits
-next-above-one = refl
+next-above-one h = le→leb _ _ h
+
+-- so with tables and lines: ones pass at every degree, and one number above 1 is refused
+pub ones-in-a-table : (N : ℕ) → TableAtMostOne N (λ n m. one64)
+ones-in-a-table N n m h k = one-at-most-one
+
+pub ones-in-a-line : (N : ℕ) → LineAtMostOne N (λ m. one64)
+ones-in-a-line N m h = one-at-most-one
+
+pub next-in-a-table : (N : ℕ) → TableAtMostOne N (λ n m. next) → ⊥
+next-in-a-table N h = next-above-one (h 0 0 (omega arith) (omega arith))
+
+pub next-in-a-line : (N : ℕ) → LineAtMostOne N (λ m. next) → ⊥
+next-in-a-line N h = next-above-one (h 0 (omega arith))
 
 -- ---- F of the factors 2, -3 and 0.5 is 3, of 0.5 alone it is 1
 largest-of-three : largestFactor (line (0x4000000000000000 ∷ 0xc008000000000000 ∷ 0x3fe0000000000000 ∷ [])) 3 ≡ 3 * 2 ^ 1074
@@ -37,6 +54,11 @@ largest-of-three = refl
 largest-of-one : largestFactor (line (0x3fe0000000000000 ∷ [])) 1 ≡ 2 ^ 1074
 unfolding largestFactor oneInUnits unitsOf line ofBits
 largest-of-one = refl
+
+-- ---- the absolute part of an average with six pairs and F = 1: 3 * 6 * 1 + 1
+absolute-of-six-pairs : averageAbsolute (line (0x3ff0000000000000 ∷ 0x3ff0000000000000 ∷ 0x3ff0000000000000 ∷ [])) 2 ≡ 19 * 2 ^ 1074
+unfolding averageAbsolute largestFactor oneInUnits unitsOf line ofBits
+absolute-of-six-pairs = refl
 
 -- ---- the power of two that makes both sides whole
 grid-power : oneInUnits * oneInUnits * oneInUnits * oneInUnits * 2 ^ 53 ≡ 2 ^ 4349
@@ -90,3 +112,28 @@ zero-is-no-grid-value h = le→leb _ _ h
 four-units-are-no-grid-value : Grid (double 0x3ff0_0000_0000_0004) → ⊥
 unfolding GridWithin gridPair gridPairSize gridTermC gridTermS triangleTotal triangleTotalℤ lineTotal lineTotalℤ gridRelative gridAbsolute oneInUnits exact ofBits
 four-units-are-no-grid-value h = le→leb _ _ h
+
+-- where all terms are zero the absolute part stands alone: of one pair with F = 1, six units of 2 ^ -1074 for a grid value and four for an average
+abbrev NoAverage : Float → Type 0
+NoAverage v = AverageWithin zeros zeros ones zeros (ones 0) 0 v
+
+abbrev NoGrid : Float → Type 0
+NoGrid v = GridWithin ones (ones 0) zeros zeros (ones 0) (zeros 0) 0 v
+
+four-are-an-average : NoAverage (double 4)
+unfolding AverageWithin averagePair averagePairSize averageTermC averageTermS triangleTotal triangleTotalℤ lineTotal lineTotalℤ averageRelative averageAbsolute
+    largestFactor oneInUnits unitsOf exact ofBits
+four-are-an-average = leb→le _ _ tt
+
+five-are-no-average : NoAverage (double 5) → ⊥
+unfolding AverageWithin averagePair averagePairSize averageTermC averageTermS triangleTotal triangleTotalℤ lineTotal lineTotalℤ averageRelative averageAbsolute
+    largestFactor oneInUnits unitsOf exact ofBits
+five-are-no-average h = le→leb _ _ h
+
+six-are-a-grid-value : NoGrid (double 6)
+unfolding GridWithin gridPair gridPairSize gridTermC gridTermS triangleTotal triangleTotalℤ lineTotal lineTotalℤ gridRelative gridAbsolute oneInUnits exact ofBits
+six-are-a-grid-value = leb→le _ _ tt
+
+seven-are-no-grid-value : NoGrid (double 7) → ⊥
+unfolding GridWithin gridPair gridPairSize gridTermC gridTermS triangleTotal triangleTotalℤ lineTotal lineTotalℤ gridRelative gridAbsolute oneInUnits exact ofBits
+seven-are-no-grid-value h = le→leb _ _ h

@@ -3,3 +3,4 @@ pub mod Rows
 pub mod Checks
 pub mod Promise
 pub mod OtherRows
+pub mod Controls
