@@ -15,7 +15,7 @@ ghost use Rattle.caps.specs.Columns.{TablesIn};
 ghost use Rattle.caps.specs.Nodes.{addedCell, addedNode, addedBy, rescaleOf, firstRescale, nextRescale, NodeRoom};
 
 // What the order and the cap's size count for.
-pub fn factor(m: usize, x0: f64) -> f64
+fn factor(m: usize, x0: f64) -> f64
     ensures { λ r. ⌜ r ≡ capFactor m x0 ⌝ }
 {
     if m == 0 {
@@ -26,7 +26,7 @@ pub fn factor(m: usize, x0: f64) -> f64
 
 // x p times the column, added to the k numbers from index `at` on. The order of the three factors is the Rust's: a row times a column has other bits
 // than the column times the row.
-pub fn add_row(k: usize, at: usize, x: f64, p: f64, col: &[f64], work: &mut [f64])
+pub(crate) fn add_row(k: usize, at: usize, x: f64, p: f64, col: &[f64], work: &mut [f64])
     requires { ⌜ k ≤ length (now col) ⌝ ∗ ⌜ at + k ≤ length (now work) ⌝ }
     ensures { λ _. ⌜ Filled at (addedCell (x ⊗ p) (now (col .entry)) (now (work .entry)) at) k (now (work .entry)) (now (work .exit)) ⌝ }
 {

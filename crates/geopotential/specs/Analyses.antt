@@ -42,7 +42,7 @@ module _ (k : ℕ) (love : List Float) (nmax : ℕ) (values weights lats trig wo
   analysisKeeps l = cond (ltb 5 k) l (behind (analysisAnswer (functionalOf k)) (3 * tableSize nmax) l)
 
   pub analysis-unknown : (gm radius r : Float) (a b : ℕ → ℕ → Float) → 5 < k
-      → (255 ≡ analysisNumber)
+      → (noFunctional ≡ analysisNumber)
       × ((c ≡ analysisAfter gm radius r a c)
       × ((s ≡ analysisAfter gm radius r b s) × ((analysisKeeps work ≡ analysisKeeps work) × (length work ≡ length work))))
   unfolding analysisNumber analysisAfter

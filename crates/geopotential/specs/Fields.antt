@@ -53,7 +53,7 @@ module _ (gm radius : Float) (nmax : ℕ) (c s : List Float) (kmax : ℕ) (kc ks
       (x ≡ basinNumber gm radius nmax c s kmax kc ks k love r)
       × ((v ≡ basinAfter gm radius nmax c s kmax kc ks k love r old) × (x ≡ 0 → Within (functionalOf k) v))
 
-  pub basin-unknown : 5 < k → Promised 255 old
+  pub basin-unknown : 5 < k → Promised noFunctional old
   unfolding basinNumber basinAfter
   basin-unknown h = (simp (lt-ltb 5 k h), (simp (lt-ltb 5 k h), λ e. absurd (omega (arith, e))))
 
@@ -108,7 +108,7 @@ module _ (gm radius r : Float) (k nmax : ℕ) (c s love : List Float) (rows : �
       × ((gridKeeps k nmax c s love rows lats longitudes trig work out w ≡ gridKeeps k nmax c s love rows lats longitudes trig work out work)
       × ((length w ≡ length work) × ((i j : ℕ) → x ≡ 0 → GridMargin (functionalOf k) o i j))))
 
-  pub grid-unknown : 5 < k → Kept 255 work out
+  pub grid-unknown : 5 < k → Kept noFunctional work out
   unfolding gridNumber gridAfter
   grid-unknown h = (simp (lt-ltb 5 k h), (simp (lt-ltb 5 k h), (refl, (refl, λ i j e. absurd (omega (arith, e))))))
 

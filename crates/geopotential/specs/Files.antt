@@ -92,7 +92,7 @@ modelWriteAfter gm radius tide nmax c s out =
     (after (writeAnswer nmax (length c) (length s) (length out)) (store 0 (render (headOfWords gm radius tide nmax) c s) out) out)
 
 module _ (gm radius tide nmax : ℕ) (c s out : List ℕ) where
-  pub write-tide : 3 < tide → (9 ≡ modelWriteNumber tide nmax c s out) × (out ≡ modelWriteAfter gm radius tide nmax c s out)
+  pub write-tide : 3 < tide → (refusalNumber Tide ≡ modelWriteNumber tide nmax c s out) × (out ≡ modelWriteAfter gm radius tide nmax c s out)
   unfolding modelWriteNumber modelWriteAfter
   write-tide h = (simp (lt-ltb 3 tide h), simp (lt-ltb 3 tide h))
 

@@ -45,7 +45,7 @@ factorAfter k love n gm radius r old = cond (ltb 5 k) old (valueAfter (factorAns
 
 -- ---- the two ways through the entry
 module _ (k : ℕ) (love : List Float) (n : ℕ) (gm radius r old : Float) where
-  pub factor-unknown : 5 < k → (255 ≡ factorNumber k love n gm radius r) × (old ≡ factorAfter k love n gm radius r old)
+  pub factor-unknown : 5 < k → (noFunctional ≡ factorNumber k love n gm radius r) × (old ≡ factorAfter k love n gm radius r old)
   unfolding factorNumber factorAfter
   factor-unknown h = (simp (lt-ltb 5 k h), simp (lt-ltb 5 k h))
 

@@ -61,7 +61,7 @@ after-length (NotDone r) made old h e = ap length e
 
 -- ---- the two ways through `degree_amplitudes`
 module _ (gm radius : Float) (nmax : ℕ) (c s : List Float) (k : ℕ) (love out : List Float) where
-  pub amplitudes-unknown : 5 < k → (255 ≡ amplitudesNumber nmax c s k love out) × (out ≡ amplitudesAfter gm radius nmax c s k love out)
+  pub amplitudes-unknown : 5 < k → (noFunctional ≡ amplitudesNumber nmax c s k love out) × (out ≡ amplitudesAfter gm radius nmax c s k love out)
   unfolding amplitudesNumber amplitudesAfter
   amplitudes-unknown h = (simp (lt-ltb 5 k h), simp (lt-ltb 5 k h))
 

@@ -4,7 +4,7 @@ ghost use mathlib.Core.Path.{_≡_};
 ghost use Rattle.geopotential.specs.Functionals.{functionalOf, factorNumber, factorAfter};
 
 // The functional of a number from 0 to 5, in the order of the enum; WaterHeight for any other, which the entries refuse before they ask.
-pub fn functional_of(number: u32) -> Functional
+pub(crate) fn functional_of(number: u32) -> Functional
     ensures { λ r. ⌜ r ≡ functionalOf number ⌝ }
 {
     match number {

@@ -219,7 +219,7 @@ fn compute_long(nmax: usize, t: f64, u: f64, a: &[f64], b: &[f64], p: &mut [f64]
 }
 
 // The table of P up to degree nmax.
-pub fn compute(nmax: usize, t: f64, u: f64, a: &[f64], b: &[f64], p: &mut [f64])
+pub(crate) fn compute(nmax: usize, t: f64, u: f64, a: &[f64], b: &[f64], p: &mut [f64])
     requires { ⌜ nmax ≤ 2700 ⌝ ∗ ⌜ tableSize nmax ≤ length (now a) ⌝ ∗ ⌜ tableSize nmax ≤ length (now b) ⌝ ∗ ⌜ tableSize nmax ≤ length (now p) ⌝ }
     ensures { λ _. ⌜ Filled 0 (along (pCell (from 0 (now (a .entry)) nan) (from 0 (now (b .entry)) nan) t u)) (tableSize nmax)
         (now (p .entry)) (now (p .exit)) ⌝ }
