@@ -140,7 +140,9 @@ uint32_t geopotential_gauss_legendre(size_t n, const double *guesses, size_t gue
  * pair for each row; trig: longitudes (2N+2), for each longitude the cosine and the sine of m times it, m from 0 to N; work: 3T + 3(N+1); out:
  * rows longitudes. Where c, s and the cosines and sines of a value's sum are at most 1 in size, and the value is finite, it lies within (2N+7)/2^53
  * of the sum of the terms' sizes, plus 2(N+1)(N+3)/2^1074, of the exact sum of its terms: factor P c cos and factor P s sin of all T pairs, each
- * by itself. Outside that premise nothing is promised of the distance. Refused by 255, 1, 2, 5, 3. */
+ * by itself. Here factor and P are the rounded numbers that geopotential_factor and, by the a and b of geopotential_legendre_new,
+ * geopotential_legendre_compute answer, not the mathematical functions. Outside that premise nothing is promised of the distance. Refused by 255,
+ * 1, 2, 5, 3. */
 uint32_t geopotential_grid(double gm, double radius, size_t nmax, const double *c, size_t c_len, const double *s, size_t s_len,
                            uint32_t functional, const double *love, size_t love_len, double r, size_t rows, const double *latitudes,
                            size_t latitudes_len, size_t longitudes, const double *trig, size_t trig_len, double *work, size_t work_len,
@@ -161,7 +163,7 @@ uint32_t geopotential_acceleration_neu(double v, double dr, double dlat, double 
 /* Gravity: the same with the centrifugal term of a rotation omega. Refused by 3. */
 uint32_t geopotential_gravity_neu(double v, double dr, double dlat, double dlon, double r, double t, double u, double omega, double *out,
                                   size_t out_len);
-/* The coefficients of a functional's values on N+1 Gauss rows of 2N+2 longitudes, the inverse of grid. love: N+1 or more for water heights;
+/* The coefficients of a functional's values on N+1 Gauss rows of 2N+2 longitudes, by quadrature. love: N+1 or more for water heights;
  * values: (N+1)(2N+2), row after row; weights: N+1; latitudes: 2(N+1); trig: 2(N+1)(2N+2), order after order, for each longitude the cosine and
  * the sine of m times it; work: 3T; c, s: T. Refused by 255, 1, 2, 5, 3. */
 uint32_t geopotential_analysis(uint32_t functional, const double *love, size_t love_len, double r, size_t nmax, double gm, double radius,
@@ -188,16 +190,17 @@ uint32_t geopotential_polar_cap(size_t lmax, double cosine, const double *weight
 /* A functional's average over a basin by its kernel, up to the smaller degree M. c, s: T; kc, ks: the same of kmax; love: M+1 or more for water
  * heights. Where kc[0] is at most 1 in size and the value is finite, the value times kc[0] lies within (T+5)/2^53 of the sum of the terms' sizes,
  * plus (3TF+1)/2^1074, of the exact sum of its terms: factor c kc and factor s ks of all T pairs up to M, each by itself; F is the larger of 1 and
- * the largest factor's size. Refused by 255, 1, 2, 5; *value is left alone on a refusal. */
+ * the largest factor's size. Here factor is the rounded number that geopotential_factor answers, not the mathematical function. Outside that
+ * premise nothing is promised of the distance. Refused by 255, 1, 2, 5; *value is left alone on a refusal. */
 uint32_t geopotential_basin_average(double gm, double radius, size_t nmax, const double *c, size_t c_len, const double *s, size_t s_len,
                                     size_t kmax, const double *kc, size_t kc_len, const double *ks, size_t ks_len, uint32_t functional,
                                     const double *love, size_t love_len, double r, double *value);
 
 /* ---- lengths
  *
- * Each writes the length of every list of its call to the front of `lengths`, in the order that is named beside it; lists of these lengths are
- * never refused. Love numbers are told for water heights: other functionals read none. Refused, nothing written, by 1 where the call itself would
- * be, and by 3 where `lengths` has too few numbers.
+ * Each writes the length of every list of its call to the front of `lengths`, in the order that is named beside it; such lists are not refused
+ * for their lengths. Love numbers are told for water heights: other functionals read none. Refused, nothing written, by 1 where the call itself
+ * would be, and by 3 where `lengths` has too few numbers.
  */
 uint32_t geopotential_factor_lengths(size_t n, size_t *lengths, size_t lengths_len);                   /* love */
 uint32_t geopotential_zeros_lengths(size_t nmax, size_t *lengths, size_t lengths_len);                 /* c, s */

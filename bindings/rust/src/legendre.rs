@@ -1,18 +1,18 @@
 //! Fully normalized associated Legendre functions `P̄nm(sin φ)` (4π normalization, no
-//! Condon–Shortley phase) and their latitude derivatives, stable to degree 2700 at every latitude.
+//! Condon–Shortley phase) and their latitude derivatives, up to degree 2700.
 //!
 //! This is the modified forward column recursion of Holmes & Featherstone (2002, J. Geodesy 76,
-//! 279–299). The recursion runs on `P̄nm / cos^m φ`, scaled by 1e-280 so it cannot overflow, and
-//! `cos^m φ` is applied last, the way SHTOOLS' `PlmBar` does it. A value that underflows in that
-//! last step is below 1e-308, which is negligible.
+//! 279–299). The recursion runs on `P̄nm / cos^m φ`, scaled by 1e-280 against overflow, and
+//! `cos^m φ` is applied last, the way SHTOOLS' `PlmBar` does it. What underflows in that last step
+//! is taken to be negligible.
 
 use crate::calls::tables::Recursion;
 use crate::calls::{lengths, tables};
 use crate::refusal::{Refusal, or_panic};
 use crate::workspace::{self, List};
 
-/// Highest degree the scaled recursion supports before `P̄nm / cos^m φ` can overflow near the
-/// poles (Holmes & Featherstone 2002).
+/// Highest degree that is taken: above it the scaled `P̄nm / cos^m φ` can overflow near the poles
+/// (Holmes & Featherstone 2002).
 pub const MAX_DEGREE: usize = 2700;
 
 /// A reusable table of `P̄nm` (and optionally `∂P̄nm/∂φ`) for all `0 ≤ m ≤ n ≤ nmax` at one
@@ -39,7 +39,7 @@ impl Legendre {
     /// Prepare a table up to degree `nmax`.
     ///
     /// # Panics
-    /// If `nmax > MAX_DEGREE`: the recursion would overflow near the poles and return NaN.
+    /// If `nmax > MAX_DEGREE`: the recursion could overflow near the poles and return NaN.
     #[track_caller]
     pub fn new(nmax: usize) -> Self {
         or_panic(Self::try_new(nmax))
@@ -66,7 +66,7 @@ impl Legendre {
     }
 
     /// Like [`compute`](Self::compute), and also fill `∂P̄nm/∂φ`. The derivative is a
-    /// combination of `P̄n,m±1`, with no `1/cos φ` factor, so it is exact at the poles.
+    /// combination of `P̄n,m±1`, with no `1/cos φ` factor, so the poles bring no division by 0.
     pub fn compute_with_derivative(&mut self, lat: f64) {
         let Legendre { nmax, a, b, p, dp } = self;
         if dp.is_empty() {
@@ -106,9 +106,10 @@ impl Legendre {
     }
 }
 
-/// The `n` nodes (ascending) and weights of Gauss–Legendre quadrature on `[−1, 1]`, exact for
-/// polynomials of degree up to `2n − 1`: Newton's method on `P_n` from Tricomi's starting values,
-/// with the weights `2/((1 − x²)P_n′²)` and the symmetry about 0 imposed.
+/// The `n` nodes and weights of Gauss–Legendre quadrature on `[−1, 1]`: Newton's method on `P_n`
+/// from Tricomi's starting values, with the weights `2/((1 − x²)P_n′²)` and the symmetry about 0
+/// imposed. The nodes are meant to ascend, and the rule to be exact for polynomials of degree up to
+/// `2n − 1` but for rounding; what is promised is the numbers of these steps.
 ///
 /// ```
 /// let (x, w) = geopotential::gauss_legendre(3);

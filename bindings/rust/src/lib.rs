@@ -1,10 +1,12 @@
 //! Spherical-harmonic gravity fields from degree 0 to 2700: the calls of the published crate `geopotential`
-//! (FusionVault/physica, commit 52f1dbc835, MIT), answered by a library in which every one of them is proved.
+//! (FusionVault/physica, commit 52f1dbc835, MIT), answered by a library in which every one of them is proved but [`gauss_grid`],
+//! whose angles, with their `asin`, are Rust alone.
 //!
-//! Names, paths, signatures and doc comments are the published crate's, so a program written against it compiles when one line
-//! of its `Cargo.toml` is changed. Angles are radians. This crate works out sines and cosines by the standard library, from the
-//! published expressions, and makes the lists; the arithmetic on them is the proved library's, in the published order. What is
-//! proved is the library; this crate is tested and compared with the published one.
+//! Names, paths, signatures and most of the doc comments are the published crate's, so a program written against it compiles when
+//! one line of its `Cargo.toml` is changed. Angles are radians. This crate works out sines and cosines by the standard library,
+//! from the published expressions, and makes the lists; the arithmetic on them is the proved library's, in the published order.
+//! What is proved is the library; this crate is tested and compared with the published one. What the doc comments say of a
+//! method's accuracy is the published crate's word, not proved.
 //!
 //! ```
 //! use geopotential::{Coefficients, Functional};

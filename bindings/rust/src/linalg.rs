@@ -14,10 +14,10 @@ use crate::refusal::{Refusal, or_panic};
 use crate::workspace;
 
 /// Eigenvalues and eigenvectors of a symmetric `n×n` matrix `a` (row-major). Eigenvalue `k` is
-/// `values[k]`, with its unit eigenvector in column `k` of `vectors` (row-major), in no particular
-/// order. Up to `n = 32` by cyclic Jacobi rotations, which keep small eigenvalues accurate to the
-/// matrix's round-off; above that by [`householder_ql`], which costs one `O(n³)` instead of one
-/// per sweep.
+/// `values[k]`, with its eigenvector, meant to be of unit norm, in column `k` of `vectors`
+/// (row-major), in no particular order. One that has not settled is still answered. Up to `n = 32`
+/// by cyclic Jacobi rotations, which are meant to keep small eigenvalues accurate to the matrix's
+/// round-off; above that by [`householder_ql`], which costs one `O(n³)` instead of one per sweep.
 ///
 /// # Panics
 /// If `n > 512`, or `a` has not exactly `n²` entries.
@@ -34,7 +34,8 @@ pub fn try_symmetric_eigen(a: &[f64], n: usize) -> Result<(Vec<f64>, Vec<f64>), 
 /// [`symmetric_eigen`] by Householder reduction to tridiagonal form and the implicit QL
 /// iteration with Wilkinson shifts (Golub & Van Loan, *Matrix Computations*, Algorithms 8.3.1
 /// and 8.3.3; EISPACK's `tred2` and `tql2`), `(4/3)n³` operations for the reduction and `O(n²)`
-/// per eigenvalue after it. Eigenvalues are accurate to round-off times the matrix's norm.
+/// per eigenvalue after it. Eigenvalues are meant to be accurate to round-off times the matrix's
+/// norm.
 ///
 /// # Panics
 /// If `n > 512`, or `a` has not exactly `n²` entries.

@@ -35,20 +35,20 @@ pub struct Slepian {
     /// Its order. An order above 0 stands for two functions, with `cos mλ` and `sin mλ`, which
     /// share the coefficients and the concentration.
     pub m: usize,
-    /// The fraction of its energy inside the cap, between 0 and 1.
+    /// The fraction of its energy inside the cap, meant to be between 0 and 1.
     pub concentration: f64,
-    /// Its unit-norm coefficients of `P̄lm(cos θ)` (4π-normalized), for `l = m ..= L`.
+    /// Its coefficients of `P̄lm(cos θ)` (4π-normalized), for `l = m ..= L`, meant to be of unit norm.
     pub coefficients: Vec<f64>,
 }
 
 /// The Slepian functions to degree `lmax` of the cap within colatitude `theta` (radians) of the
 /// pole, best concentrated first.
 ///
-/// The concentration matrices are exact: `P̄lm P̄l′m` is a polynomial of degree `l + l′ ≤ 2L` in
-/// `cos θ`, which `L + 1` Gauss–Legendre points over the cap integrate exactly. Their
-/// eigenvalues cluster at 1 and 0, so their eigenvectors are poorly determined. The vectors come
-/// instead from Grünbaum's tridiagonal matrix, which commutes with the concentration matrix and
-/// has a simple spectrum (Simons et al. 2006, "Commuting tridiagonal matrix"), and the
+/// The concentration matrices are meant to be exact but for rounding: `P̄lm P̄l′m` is a polynomial
+/// of degree `l + l′ ≤ 2L` in `cos θ`, for which `L + 1` Gauss–Legendre points over the cap are
+/// enough. Their eigenvalues cluster at 1 and 0, so their eigenvectors are poorly determined. The
+/// vectors come instead from Grünbaum's tridiagonal matrix, which commutes with the concentration
+/// matrix and has a simple spectrum (Simons et al. 2006, "Commuting tridiagonal matrix"), and the
 /// concentrations are the Rayleigh quotients `cᵀDc`.
 ///
 /// # Panics

@@ -42,7 +42,7 @@ impl Partials {
 
 impl Coefficients {
     /// `V` and its partial derivatives at geocentric radius `r` (m), latitude `lat` and longitude
-    /// `lon` (radians). Finite at the poles.
+    /// `lon` (radians). No division by `cos φ`: at a pole the sums are what the recursion gives there.
     ///
     /// ```
     /// let mut field = geopotential::Coefficients::zeros(8.0, 1.0, 0);
@@ -129,7 +129,8 @@ impl Coefficients {
 }
 
 /// The grid that [`Coefficients::analysis`] reads to degree `nmax`: `nmax + 1` Gauss–Legendre
-/// latitudes (radians, south to north) and `2·nmax + 2` longitudes `2πj/(2·nmax + 2)`.
+/// latitudes (radians, meant to run south to north) and `2·nmax + 2` longitudes `2πj/(2·nmax + 2)`.
+/// The nodes are the library's; their `asin` and the longitudes are Rust alone, not proved.
 ///
 /// # Panics
 /// If `nmax > MAX_DEGREE`.
@@ -152,11 +153,11 @@ fn longitudes(nmax: usize) -> usize {
 
 impl Coefficients {
     /// The coefficients to degree `nmax` of a functional sampled on [`gauss_grid`]`(nmax)` at
-    /// radius `r`, row-major by latitude as [`grid`](Self::grid) writes it: its exact inverse
-    /// for a field of that degree. The latitude integral is Gauss–Legendre quadrature, exact for
-    /// the polynomial `P̄nm P̄n′m` of degree `n + n′ ≤ 2·nmax`; the longitude sum is exact for
-    /// orders up to `nmax`. A degree whose factor is zero, such as degree 1 of a gravity anomaly,
-    /// is left at zero.
+    /// radius `r`, row-major by latitude as [`grid`](Self::grid) writes it, by quadrature. It is
+    /// meant to undo `grid` for a field of that degree but for rounding: Gauss–Legendre quadrature
+    /// over the latitudes is exact for the polynomial `P̄nm P̄n′m` of degree `n + n′ ≤ 2·nmax`, the
+    /// longitude sum for orders up to `nmax`. A degree whose factor is zero, such as degree 1 of a
+    /// gravity anomaly, is lost: it is left at zero.
     ///
     /// ```
     /// use geopotential::{Coefficients, Functional, gauss_grid};

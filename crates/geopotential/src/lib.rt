@@ -1,4 +1,5 @@
-// The library for C: every public call as an entry geopotential_NAME.
+// The library for C: the public calls as entries geopotential_NAME. The head and the verdict of model_file, the report of variance_report and
+// the two calls of days have none.
 //
 // Parameters stand in the order of the Rattle call; a list is a pointer and then its length; a small record goes field by field; an enum
 // is its number; a single number that is answered goes through a pointer at the end and is left alone on a refusal; the result is the

@@ -120,7 +120,8 @@ fn curvature(i: u64) -> f64 {
     }
 }
 
-// The root of x = 1 + w / 2^52 where w is below 2^52, and of x = w / 2^51 above: in [1, 2), within one and a half units of its last digit.
+// The root of x = 1 + w / 2^52 where w is below 2^52, and of x = w / 2^51 above: meant to be in [1, 2), within one and a half units of its last
+// digit.
 pub fn estimate(w: u64) -> f64
     requires { ⌜ w < 2 ^ 53 ⌝ }
 {

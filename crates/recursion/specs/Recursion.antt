@@ -13,7 +13,7 @@ use Rattle.number.specs.Root.{rootOf}
 use Rattle.storage.specs.Fill.{fill, fill-join, fill-same, take-fill}
 use Rattle.storage.specs.Triangle.{idx, tableSize, along, row-start-monotone, along-same}
 
--- 1e-280, the scale that keeps the recursion from overflow
+-- 1e-280, the scale against overflow
 abbrev pub scale64 : Float
 scale64 = double 0x05cd_0b15_a491_eb84
 

@@ -1,4 +1,4 @@
--- Demand 3's words at fixed numbers, so that none of its definitions can change unnoticed: what is at most 1 in size, F, the two powers of two, a
+-- Demand 3's words at fixed numbers, so that a change of these words is noticed: what is at most 1 in size, F, the two powers of two, a
 -- grid's terms, and values that miss their margins. Assumes nothing.
 use mathlib.Core.Path.{_≡_, refl}
 use mathlib.Core.List.{[], _∷_}

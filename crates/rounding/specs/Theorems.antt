@@ -1,4 +1,5 @@
--- Every finite basin average and every finite grid value, up to degree 2700, lies within its margin (Margins) of the exact sum. Assumes nothing.
+-- Every finite basin average times the kernel's first number, where that is at most 1 in size, and every finite grid value, where c, s, the cosines
+-- and the sines of its sum are at most 1 in size, lies within its margin (Margins) of the exact sum, up to degree 2700. Assumes nothing.
 use mathlib.Core.Path.{sym, subst}
 use Prim.Native.Nat.{ℕ, suc, _+_, _*_, _^_, _≤_}
 use native.Mathlib.Nat.{mul-le-mul-left, le-of-suc-le-suc}

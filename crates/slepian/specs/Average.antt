@@ -125,7 +125,7 @@ module _ (nmax clen slen kmax kclen kslen : ℕ) (lacks : Bool) (c s c' s' : Lis
   pub answer-refused : {found : Bool} {e : Refusal} → Refused e ≡ averageCheck nmax clen slen kmax kclen kslen found → found ≡ lacks → NoValue e ≡ answer
   answer-refused h g = ap (λ (a : Answer). valueIf a value) (h ∙ ap (averageCheck nmax clen slen kmax kclen kslen) g)
 
-  -- a finite value lies within the margin of the exact sum
+  -- where the kernel's first number is at most 1 in size, a finite value times it lies within the margin of the exact sum
   abbrev pub Within : Number → Type 0
   Within x =
       (v : Float) → x ≡ Value v → T (finite v) → AtMostOne (cells c' nan 0 0)

@@ -2,8 +2,8 @@
 //!
 //! The library's height is `T/(GM/r²)`. By the normal gravity γ of an ellipsoid it is the library's times
 //! `(GM/r²)/γ`; by a potential `W₀` of the geoid other than the ellipsoid's `U₀` it is less `(W₀ − U₀)/γ`
-//! (Bruns' formula, Heiskanen & Moritz, §2.17). The margin is proved of the library's number, for coefficients up
-//! to 1 in size.
+//! (Bruns' formula, Heiskanen & Moritz, §2.17). The margin is proved of the library's number where it is finite and
+//! coefficients, cosines and sines are at most 1 in size, as the cosines and sines of `f64::sin_cos` should be.
 
 use geopotential::Coefficients;
 
@@ -85,7 +85,8 @@ impl Heights {
         if let Some(ellipsoid) = self.gamma {
             note(&format!(
                 "heights are the library's times one factor a row, (GM/r²)/γ with γ the normal gravity of {}: \
-                 the margin is proved of the library's (coefficients up to 1 in size), and geoid average has no such factor (--gamma sphere)",
+                 the margin is proved of the library's (finite; coefficients, cosines and sines up to 1 in size, as the tool's \
+                 cosines and sines should be), and geoid average has no such factor (--gamma sphere)",
                 ellipsoid.name
             ));
         }

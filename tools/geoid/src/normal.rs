@@ -106,7 +106,7 @@ impl NormalGravity {
     }
 
     /// The zonal harmonic `J₂ₙ = (−1)ⁿ⁺¹ 3e²ⁿ/((2n+1)(2n+3)) · (1 − n + 5nJ₂/e²)` for n from 1 (Heiskanen &
-    /// Moritz, Eq. 2-92). The power is a plain product, so that every machine gets the same bits.
+    /// Moritz, Eq. 2-92). The power is a plain product, so that every machine should get the same bits.
     pub fn zonal(&self, n: usize) -> f64 {
         let (e2, nf) = (self.e2(), n as f64);
         let power: f64 = std::iter::repeat_n(e2, n).product();

@@ -1,4 +1,4 @@
-//! Seeded random numbers whose bits are the same on every machine.
+//! Seeded random numbers whose bits should be the same on every machine.
 
 /// SplitMix64 (Steele, Lea & Flood 2014, OOPSLA, "Fast splittable pseudorandom number generators").
 #[derive(Clone, Debug)]

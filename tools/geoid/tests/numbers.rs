@@ -114,7 +114,10 @@ fn heights_by_the_ellipsoid_are_the_librarys_times_one_factor() {
     let (by_ellipsoid, notes) = grid(&[]);
     assert!(notes.contains("heights are the library's times one factor a row, (GM/r²)/γ with γ the normal gravity of GRS80"), "{notes}");
     assert!(
-        notes.contains("the margin is proved of the library's (coefficients up to 1 in size), and geoid average has no such factor"),
+        notes.contains(
+            "the margin is proved of the library's (finite; coefficients, cosines and sines up to 1 in size, as the tool's \
+             cosines and sines should be), and geoid average has no such factor"
+        ),
         "{notes}"
     );
     assert_eq!(by_ellipsoid, grid(&["--gamma", "ellipsoid"]).0);

@@ -51,9 +51,9 @@ pub const COMMAND: Command = Command {
               The normal field (even zonals and degree 0) is rescaled to the field's GM and radius before it is taken off,\n\
               so degree 0 keeps 1 - GM0/GM. Water heights ignore the radius.\n\
               A geoid height is the disturbing potential over GM/r^2 (--gamma sphere), the library's functional, whose\n\
-              rounding margin is proved for coefficients up to 1 in size; --gamma ellipsoid multiplies it by one factor\n\
-              a row, (GM/r^2)/gamma with gamma by Somigliana, and --w0 takes (W - U0)/gamma off it. geoid average has\n\
-              no such factor.\n",
+              rounding margin is proved of finite values for coefficients, cosines and sines up to 1 in size (the\n\
+              tool's cosines and sines should be); --gamma ellipsoid multiplies it by one factor a row, (GM/r^2)/gamma\n\
+              with gamma by Somigliana, and --w0 takes (W - U0)/gamma off it. geoid average has no such factor.\n",
     run,
 };
 

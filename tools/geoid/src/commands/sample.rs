@@ -18,8 +18,8 @@ pub const COMMAND: Command = Command {
         Opt { name: "--seed", value: "S", help: "a whole number; default 1" },
     ],
     details: "The even zonals of GRS80's normal field, and on top of them random coefficients from degree 2: SplitMix64,\n\
-              twelve uniform numbers added to a nearly normal one, standard deviation 1e-5/n^2 (Kaula's rule). A seed gives\n\
-              the same bits on every machine. OUT is ICGEM text where it ends with .gfc, else a model file.\n",
+              twelve uniform numbers added to a nearly normal one, standard deviation 1e-5/n^2 (Kaula's rule). A seed\n\
+              should give the same bits on every machine. OUT is ICGEM text where it ends with .gfc, else a model file.\n",
     run,
 };
 
