@@ -105,16 +105,16 @@ through the texts of promises and definitions, and the prover has no part in it.
 
 `crate/File` stands for `crates/crate/specs/File.antt`. These files are what a reader must believe; the rest of specs/ and all of proofs/ is held to them
 by the prover. Promises also speak the language's library: lists (`length`, `getD`, `take`, `drop`), whole numbers, IEEE 754 arithmetic (`lib.Ieee`).
-An entry for C rests on what its call rests on, and on `geopotential/Files`, `Fields`, `Functionals`, `Models`, `Points` and `Analyses`.
+The entries for C have rows of their own, those that tell lengths one for all.
 
 | call | definitions |
 |---|---|
 """
 
 KERNELS = """
-## The kernels that other crates can reach
+## The kernels with a `requires` that other crates can reach
 
-Each of these has a `requires`, which its callers' proofs meet.
+Their callers' proofs meet what they require. Kernels without a `requires` are not listed.
 
 | crate | kernels |
 |---|---|
@@ -126,7 +126,7 @@ def rows():
     lengths = set()
     for crate in sorted(CRATES.iterdir()):
         source = crate / "src/lib.rt"
-        if crate.name.startswith("replay") or crate.name in ("geopotential", "text") or not source.exists():
+        if crate.name.startswith("replay") or crate.name in ("days", "geopotential", "text") or not source.exists():
             continue
         for name, contract in promises(source):
             call = f"{crate.name}::{name}"
@@ -135,6 +135,14 @@ def rows():
             elif not HELPERS.match(call) and not HELPERS.match(name):
                 yield call, believed(source, contract)
     yield "lengths::*", sorted(lengths)
+    lengths = set()
+    for source in sorted((CRATES / "geopotential/src").glob("*.rt")):
+        for name, contract in promises(source):
+            if name.startswith("geopotential_") and name.endswith("_lengths"):
+                lengths |= set(believed(source, contract))
+            elif name.startswith("geopotential_"):
+                yield name, believed(source, contract)
+    yield "geopotential_*_lengths", sorted(lengths)
 
 
 def kernels(crate):
@@ -155,7 +163,7 @@ def page():
         text += f"| `{call}` | {named or 'the library alone'} |\n"
     text += KERNELS
     for crate in sorted(CRATES.iterdir()):
-        if crate.name.startswith("replay") or not (crate / "src/lib.rt").exists():
+        if not (crate / "src/lib.rt").exists():
             continue
         if listed := sorted(kernels(crate)):
             text += f"| `{crate.name}` | {', '.join(listed)} |\n"
