@@ -189,9 +189,9 @@ uint32_t geopotential_polar_cap(size_t lmax, double cosine, const double *weight
                                 double *concentrations, size_t concentrations_len, double *vectors, size_t vectors_len);
 /* A functional's average over a basin by its kernel, up to the smaller degree M. c, s: T; kc, ks: the same of kmax; love: M+1 or more for water
  * heights. Where kc[0] is at most 1 in size and the value is finite, the value times kc[0] lies within (T+5)/2^53 of the sum of the terms' sizes,
- * plus (3TF+1)/2^1074, of the exact sum of its terms: factor c kc and factor s ks of all T pairs up to M, each by itself; F is the larger of 1 and
- * the largest factor's size. Here factor is the rounded number that geopotential_factor answers, not the mathematical function. Outside that
- * premise nothing is promised of the distance. Refused by 255, 1, 2, 5; *value is left alone on a refusal. */
+ * plus (3TF+1)/2^1074, of the exact sum of its terms: factor c kc and factor s ks of all T = (M+1)(M+2)/2 pairs up to M, each by
+ * itself; F is the larger of 1 and the largest factor's size. Here factor is the rounded number that geopotential_factor answers, not the
+ * mathematical function. Outside that premise nothing is promised of the distance. Refused by 255, 1, 2, 5; *value is left alone on a refusal. */
 uint32_t geopotential_basin_average(double gm, double radius, size_t nmax, const double *c, size_t c_len, const double *s, size_t s_len,
                                     size_t kmax, const double *kc, size_t kc_len, const double *ks, size_t ks_len, uint32_t functional,
                                     const double *love, size_t love_len, double r, double *value);

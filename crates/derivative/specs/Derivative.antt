@@ -1,5 +1,5 @@
--- The derivative by latitude of a table, each number from its two neighbours in its row. It has no division by the cosine, so that it holds at
--- the poles too; applied twice it is the second derivative. Assumes nothing.
+-- The derivative by latitude of a table, each number from its two neighbours in its row. It has no division by the cosine; applied twice
+-- it is the second derivative. Assumes nothing.
 use mathlib.Core.Path.{_≡_, refl, sym, ap, ap₂, _∙_}
 use mathlib.Core.Bool.{cond}
 use mathlib.Core.List.{List}

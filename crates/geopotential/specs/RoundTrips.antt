@@ -111,12 +111,11 @@ read-written b h c s fit p c₀ s₀ w₀ rc rs rw₀ {y} {c₁} {s₁} {w₁} r
     let v : Written (h .gm) (h .radius) (tideNumber (h .tide)) (h .nmax) c s out x out′ = rw (e0, e1, e2, e3, k .of-c, k .of-s) at w in
     let back = words-back h in
     let sound : Sound (headOfWords (h .gm) (h .radius) (tideNumber (h .tide)) (h .nmax)) c s = rw back (parse-sound b h c s fit p) in
-    let e = writes (h .gm) (h .radius) (tideNumber (h .tide)) (h .nmax) c s out (tide-small (h .tide)) sound (omega (arith, parse-length b h c s p)) v in
-    (
+    let e = writes (h .gm) (h .radius) (tideNumber (h .tide)) (h .nmax) c s out (tide-small (h .tide)) sound (omega (arith, parse-length b h c s p)) v in (
       k .done,
       e .0,
       ap (take (length b)) (e .1)
-      ∙ ap (λ (g : FileHead). take (length b) (store 0 (render g c s) out)) back
-      ∙ ap (λ (f : List ℕ). take (length b) (store 0 f out)) (render-parse b h c s fit p)
-      ∙ stored-front b out (length b) refl l,
+          ∙ ap (λ (g : FileHead). take (length b) (store 0 (render g c s) out)) back
+          ∙ ap (λ (f : List ℕ). take (length b) (store 0 f out)) (render-parse b h c s fit p)
+          ∙ stored-front b out (length b) refl l,
     )

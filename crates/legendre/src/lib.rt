@@ -68,8 +68,7 @@ pub fn compute(nmax: usize, latitude: Latitude, a: &[f64], b: &[f64], p: &mut [f
     }
 }
 
-// The same, and the derivatives by latitude. A derivative is made of P(n, m - 1) and P(n, m + 1), with no division by u, so that it holds at the
-// poles.
+// The same, and the derivatives by latitude. A derivative is made of P(n, m - 1) and P(n, m + 1), with no division by u.
 pub fn compute_with_derivative(
     nmax: usize,
     latitude: Latitude,

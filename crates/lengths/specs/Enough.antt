@@ -1,4 +1,4 @@
--- A call that is lent lists of just the lengths that are told for it passes its own checks, with every functional. The lengths stand in the order
+-- A call that is lent lists of just the lengths that are told for it passes its checks of their lengths, with every functional. The lengths stand in the order
 -- in which they are told, which is the order of the call's list parameters. Assumes nothing.
 use mathlib.Core.Path.{_≡_, refl, sym, ap, _∙_}
 use mathlib.Core.Bool.{false}

@@ -5,7 +5,6 @@ use Prim.Native.Nat.{ℕ, _≤_, _<_}
 use native.Mathlib.Omega.{arith}
 use lib.Dec.{T, ltb, nltb→le}
 use borrow.Author.Tests.{lt-ltb, le-ltb}
-use Rattle.refusal.specs.Numbers.{refusalNumber}
 use Rattle.refusal.specs.declared.Refusal.{Refusal}
 use Rattle.refusal.specs.declared.Refusal.the-variants.{Size, Place}
 use Rattle.storage.specs.declared.Index.{Index}
@@ -23,11 +22,6 @@ size-none nmax h = rw (lt-ltb 2700 nmax h) refl
 pub size-is : (nmax : ℕ) → nmax ≤ 2700 → sizeOf nmax ≡ tableSize nmax
 unfolding sizeOf
 size-is nmax h = rw (le-ltb 2700 nmax h) refl
-
--- document 01's number of an index: 0 where there is one
-abbrev pub indexNumber : Index → ℕ
-indexNumber (At k) = 0
-indexNumber (Refused e) = refusalNumber e
 
 -- the index of degree n and order m in a table up to degree nmax, or why there is none
 unfoldable pub placeOf : ℕ → ℕ → ℕ → Index

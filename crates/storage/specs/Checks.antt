@@ -9,7 +9,7 @@ use lib.Dec.{T, ltb, eqb, eqb→eq, nltb→le}
 use lib.ListN.{length, getD}
 use lib.Ieee.{Float, nan}
 use borrow.Author.Tests.{lt-ltb, le-ltb, eq-eqb, ne-eqb}
-use Rattle.refusal.specs.Numbers.{refuse, refuse-yes, refuse-no, refuseValue}
+use Rattle.refusal.specs.Numbers.{answerNumber, refuse, refuse-yes, refuse-no, refuseValue}
 use Rattle.refusal.specs.declared.Answer.{Answer}
 use Rattle.refusal.specs.declared.Answer.the-variants.{Done, Refused}
 use Rattle.refusal.specs.declared.Number.{Number}
@@ -50,6 +50,10 @@ outputsCheck nmax clen slen top a b = tablesCheck nmax clen slen andThen spaceCh
 abbrev pub placeCheck : Index → Answer
 placeCheck (At k) = Done
 placeCheck (Outside e) = Refused e
+
+-- document 01's number of it: 0 where there is an index
+abbrev pub indexNumber : Index → ℕ
+indexNumber i = answerNumber (placeCheck i)
 
 -- what stands at an index, if there is one
 abbrev pub valueAt : List Float → Index → Number

@@ -5,11 +5,11 @@ use refusal::Refusal;
 ghost use mathlib.Core.Path.{_≡_};
 ghost use Prim.Native.Nat.{ℕ, _+_, _≤_, min};
 ghost use lib.ListN.{length};
-ghost use Rattle.storage.specs.Answers.{sizeOf, placeOf, indexNumber};
+ghost use Rattle.storage.specs.Answers.{sizeOf, placeOf};
 ghost use Rattle.storage.specs.Elements.{zeroAt};
 ghost use Rattle.storage.specs.Filled.{Filled};
 ghost use Rattle.storage.specs.Lanes.{lane};
-ghost use Rattle.storage.specs.Checks.{tablesCheck, outputsCheck, entryAnswer};
+ghost use Rattle.storage.specs.Checks.{indexNumber, tablesCheck, outputsCheck, entryAnswer};
 
 // The highest degree of a table.
 pub const MAX_DEGREE: usize = 2700;
