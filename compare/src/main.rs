@@ -37,7 +37,7 @@ usage: compare [--seed NUMBER] [--quick] [SUBJECT...]   same bits as the oracle,
        compare replay SUBJECT FILE                      write the oracle's answers as Rattle constants
        compare margins FILE [COUNT [SEED]]              write values and their sums' numbers, for margins.py
 subjects: number, functional, coefficients, model_file, legendre, synthesis, partials, analysis, linalg, slepian, lengths; for replay also refusals,
-          refusals_files, refusals_fields, refusals_c";
+          refusals_files, refusals_fields, refusals_c, values_c";
 
 /// One crate of the library: what can be done with it here.
 struct Subject {
@@ -83,6 +83,7 @@ const SUBJECTS: &[Subject] = &[
     Subject { name: "refusals_files", compare: |_| (), bench: None, replay: Some(refusals::files::replay) },
     Subject { name: "refusals_fields", compare: |_| (), bench: None, replay: Some(refusals::fields::replay) },
     Subject { name: "refusals_c", compare: |_| (), bench: None, replay: Some(refusals::entries::replay) },
+    Subject { name: "values_c", compare: |_| (), bench: None, replay: Some(refusals::values::replay) },
 ];
 
 fn subject(name: &str) -> Result<&'static Subject, String> {

@@ -8,6 +8,10 @@ use crate::functional::functional;
 /// The number of GeoidHeight and of WaterHeight, the functionals of the degree amplitudes.
 const FUNCTIONALS: [(u32, &str); 2] = [(1, "GEOID_HEIGHT"), (5, "WATER_HEIGHT")];
 const LOVE: [f64; 4] = [0.0, 0.021, -0.303, -0.194];
+/// What `set` stores at degree 2 and order 1.
+const SET: (f64, f64) = (0.625, -0.375);
+/// What stands in every place of c and of s before `zeros`.
+const BEFORE: (f64, f64) = (0.5, 0.75);
 
 /// A field, and the gm and radius that it is rescaled to.
 struct Example {
@@ -49,7 +53,7 @@ fn numbers(list: &[f64]) -> Vec<String> {
 }
 
 fn answers(example: Example) -> String {
-    let Example { prefix, comment, field, new } = example;
+    let Example { prefix, comment, mut field, new } = example;
     let mut text = String::new();
     let mut list = |comment: &str, name: &str, list: &[f64]| text += &array(comment, &format!("{prefix}{name}"), &numbers(list));
     list(
@@ -70,6 +74,9 @@ fn answers(example: Example) -> String {
     let truncated = field.truncated(2);
     list("c truncated at degree 2", "TRUNCATED_C", &truncated.c);
     list("s truncated at degree 2", "TRUNCATED_S", &truncated.s);
+    field.set(2, 1, SET.0, SET.1);
+    list("c with one entry set", "SET_C", &field.c);
+    list("s with one entry set", "SET_S", &field.s);
     text
 }
 
@@ -77,6 +84,11 @@ pub fn replay() -> String {
     let mut text = String::from("// The oracle's answers for the crate coefficients, numbers as bit patterns.\n");
     text += "// Written by `compare/run replay coefficients FILE` (see compare/README.md), never by hand.\n";
     text += &array("the Love numbers of both fields", "LOVE", &numbers(&LOVE));
+    text += &array("what is set at degree 2 and order 1: c, s", "SET", &numbers(&[SET.0, SET.1]));
+    let zeros = Coefficients::zeros(8.0, 2.0, 3);
+    let lent = |list: &[f64], before| numbers(&[list, &[before]].concat());
+    text += &array("c of zeros up to degree 3, and one of the list behind it", "ZEROS_C", &lent(&zeros.c, BEFORE.0));
+    text += &array("s of zeros, and one of the list behind it", "ZEROS_S", &lent(&zeros.s, BEFORE.1));
     examples().into_iter().for_each(|example| text += &answers(example));
     text
 }

@@ -5,6 +5,7 @@ pub mod entries;
 pub mod fields;
 pub mod files;
 pub mod models;
+pub mod values;
 
 use crate::constants::{array, hexadecimal};
 use crate::functional::WATER_HEIGHT;

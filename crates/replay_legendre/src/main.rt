@@ -34,6 +34,30 @@ fn show_entry(table: &[f64; 15], words: &[u64; 32]) {
     }
 }
 
+// The same of the derivatives.
+fn show_derivative_entry(table: &[f64; 15], words: &[u64; 32]) {
+    match legendre::dp(4, table, 3, 2) {
+        Number::Value(x) => show(b"dp(3, 2) ", &[x], words, 25),
+        Number::Refused(_) => {
+            io::write_all(1, b"dp(3, 2) refused\n");
+        }
+    }
+}
+
+// P at one latitude, and its entry.
+fn show_compute(latitude: Latitude, a: &[f64; 15], b: &[f64; 15], words: &[u64; 32]) {
+    let mut p = [0.0; 15];
+    match legendre::compute(4, latitude, a, b, &mut p) {
+        Answer::Done => {
+            show(b"compute ", &p, words, 2);
+            show_entry(&p, words);
+        }
+        Answer::Refused(_) => {
+            io::write_all(1, b"compute refused\n");
+        }
+    }
+}
+
 // P and its derivatives at one latitude: a row of the answers has t, u, 15 numbers of each.
 fn show_at(a: &[u64; 15], b: &[u64; 15], words: &[u64; 32]) {
     let mut la = [0.0; 15];
@@ -44,35 +68,56 @@ fn show_at(a: &[u64; 15], b: &[u64; 15], words: &[u64; 32]) {
         t: number::number_of_bits(words[0]),
         u: number::number_of_bits(words[1]),
     };
+    show_compute(latitude, &la, &lb, words);
     let mut p = [0.0; 15];
     let mut dp = [0.0; 15];
-    match legendre::compute(4, latitude, &la, &lb, &mut p) {
-        Answer::Done => show(b"compute ", &p, words, 2),
-        Answer::Refused(_) => {
-            io::write_all(1, b"compute refused\n");
-        }
-    }
     match legendre::compute_with_derivative(4, latitude, &la, &lb, &mut p, &mut dp) {
-        Answer::Done => show(b"compute_with_derivative ", &dp, words, 17),
+        Answer::Done => {
+            show(b"compute_with_derivative p ", &p, words, 2);
+            show(b"compute_with_derivative dp ", &dp, words, 17);
+            show_derivative_entry(&dp, words);
+        }
         Answer::Refused(_) => {
             io::write_all(1, b"compute_with_derivative refused\n");
         }
     }
-    show_entry(&p, words);
 }
 
 // A table up to degree 130 at the first latitude: P of degree 130, 131 numbers, then the derivatives.
 fn show_large() {
     let mut a = [0.0; 8646];
     let mut b = [0.0; 8646];
-    legendre::new(130, &mut a, &mut b);
-    let latitude = Latitude {
-        t: number::number_of_bits(answers::MIDDLE[0]),
-        u: number::number_of_bits(answers::MIDDLE[1]),
-    };
+    match legendre::new(130, &mut a, &mut b) {
+        Answer::Done => {
+            let latitude = Latitude {
+                t: number::number_of_bits(answers::MIDDLE[0]),
+                u: number::number_of_bits(answers::MIDDLE[1]),
+            };
+            show_large_compute(latitude, &a, &b);
+            show_large_derivative(latitude, &a, &b);
+        }
+        Answer::Refused(_) => {
+            io::write_all(1, b"new 130 refused\n");
+        }
+    }
+}
+
+// P alone.
+fn show_large_compute(latitude: Latitude, a: &[f64; 8646], b: &[f64; 8646]) {
+    let mut p = [0.0; 8646];
+    match legendre::compute(130, latitude, a, b, &mut p) {
+        Answer::Done => show_row(b"compute 130 ", &p, 0),
+        Answer::Refused(_) => {
+            io::write_all(1, b"compute 130 refused\n");
+        }
+    }
+}
+
+// P with its derivatives.
+fn show_large_derivative(latitude: Latitude, a: &[f64; 8646], b: &[f64; 8646]) {
     let mut p = [0.0; 8646];
     let mut dp = [0.0; 8646];
-    match legendre::compute_with_derivative(130, latitude, &a, &b, &mut p, &mut dp) {
+    match legendre::compute_with_derivative(130, latitude, a, b, &mut p, &mut dp) {
         Answer::Done => {
             show_row(b"compute_with_derivative 130, p ", &p, 0);
             show_row(b"compute_with_derivative 130, dp ", &dp, 131);

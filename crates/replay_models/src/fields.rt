@@ -9,6 +9,39 @@ pub const LOVE: [u64; 4] = [
     0xbfc8_d4fd_f3b6_45a2,
 ];
 
+// what is set at degree 2 and order 1: c, s
+pub const SET: [u64; 2] = [0x3fe4_0000_0000_0000, 0xbfd8_0000_0000_0000];
+
+// c of zeros up to degree 3, and one of the list behind it
+pub const ZEROS_C: [u64; 11] = [
+    0x0000_0000_0000_0000,
+    0x0000_0000_0000_0000,
+    0x0000_0000_0000_0000,
+    0x0000_0000_0000_0000,
+    0x0000_0000_0000_0000,
+    0x0000_0000_0000_0000,
+    0x0000_0000_0000_0000,
+    0x0000_0000_0000_0000,
+    0x0000_0000_0000_0000,
+    0x0000_0000_0000_0000,
+    0x3fe0_0000_0000_0000,
+];
+
+// s of zeros, and one of the list behind it
+pub const ZEROS_S: [u64; 11] = [
+    0x0000_0000_0000_0000,
+    0x0000_0000_0000_0000,
+    0x0000_0000_0000_0000,
+    0x0000_0000_0000_0000,
+    0x0000_0000_0000_0000,
+    0x0000_0000_0000_0000,
+    0x0000_0000_0000_0000,
+    0x0000_0000_0000_0000,
+    0x0000_0000_0000_0000,
+    0x0000_0000_0000_0000,
+    0x3fe8_0000_0000_0000,
+];
+
 // a field of degree 3, special numbers: gm, radius, then the gm and radius that it is rescaled to
 pub const HEAD: [u64; 4] = [
     0x4020_0000_0000_0000,
@@ -117,6 +150,34 @@ pub const TRUNCATED_S: [u64; 6] = [
     0x8000_0000_0000_0001,
 ];
 
+// c with one entry set
+pub const SET_C: [u64; 10] = [
+    0x8000_0000_0000_0000,
+    0x3fd3_3333_3333_3333,
+    0x1eb6_7e9c_127b_6e74,
+    0xdff1_e667_9047_07f5,
+    0x3fe4_0000_0000_0000,
+    0x0010_0000_0000_0000,
+    0x3fb9_9999_9999_999a,
+    0xbfe6_6666_6666_6666,
+    0x7ff8_0000_0000_0000,
+    0x7fef_ffff_ffff_ffff,
+];
+
+// s with one entry set
+pub const SET_S: [u64; 10] = [
+    0x0000_0000_0000_0001,
+    0x8000_0000_0000_0000,
+    0x9e4c_cb05_3660_8d61,
+    0x000f_ffff_ffff_ffff,
+    0xbfd8_0000_0000_0000,
+    0x8000_0000_0000_0001,
+    0x0000_0000_0000_0000,
+    0xfff0_0000_0000_0000,
+    0x8010_0000_0000_0000,
+    0x3fc9_9999_9999_999a,
+];
+
 // a field of degree 3, ordinary numbers: gm, radius, then the gm and radius that it is rescaled to
 pub const ORDINARY_HEAD: [u64; 4] = [
     0x42f6_a866_5b91_1600,
@@ -223,4 +284,32 @@ pub const ORDINARY_TRUNCATED_S: [u64; 6] = [
     0x0000_0000_0000_0000,
     0x3e14_9da7_e361_ce4c,
     0xbeb7_7e21_3718_9659,
+];
+
+// c with one entry set
+pub const ORDINARY_SET_C: [u64; 10] = [
+    0x3ff0_0000_0000_0000,
+    0x3fb9_9999_9999_999a,
+    0xbfd3_3333_3333_3333,
+    0xbf3f_bb03_bd1d_0325,
+    0x3fe4_0000_0000_0000,
+    0x3ec4_7689_50ff_ca23,
+    0x3eb0_0ef8_8cb5_57d6,
+    0x3ec1_0840_345b_4df0,
+    0x3eae_5c16_405b_2755,
+    0x3ea8_3417_7466_e059,
+];
+
+// s with one entry set
+pub const ORDINARY_SET_S: [u64; 10] = [
+    0x0000_0000_0000_0000,
+    0x0000_0000_0000_0000,
+    0x3fe6_6666_6666_6666,
+    0x0000_0000_0000_0000,
+    0xbfd8_0000_0000_0000,
+    0xbeb7_7e21_3718_9659,
+    0x0000_0000_0000_0000,
+    0x3e90_a80b_24e0_dad8,
+    0xbea4_c541_62aa_d5e6,
+    0x3eb7_baac_42cf_6c94,
 ];

@@ -144,6 +144,38 @@ fn show_truncated(head: Head, c: &[f64; 10], s: &[f64; 10], duec: &[u64; 6], due
     }
 }
 
+// Both lists whole after `zeros` up to degree 3, with a place behind each, which keeps what it held.
+fn show_zeros() {
+    let mut c = [0.5; 11];
+    let mut s = [0.75; 11];
+    match Head::zeros(8.0, 2.0, 3, &mut c, &mut s) {
+        Model::Made(_) => {
+            show(b"zeros c ", &c, &fields::ZEROS_C, 0);
+            show(b"zeros s ", &s, &fields::ZEROS_S, 0);
+        }
+        Model::Refused(_) => {
+            io::write_all(1, b"zeros refused\n");
+        }
+    }
+}
+
+// Both lists whole after the entry of degree 2 and order 1 is set.
+fn show_set(head: Head, c: &[u64; 10], s: &[u64; 10], duec: &[u64; 10], dues: &[u64; 10]) {
+    let mut outc = numbers(c);
+    let mut outs = numbers(s);
+    let cnm = number::number_of_bits(fields::SET[0]);
+    let snm = number::number_of_bits(fields::SET[1]);
+    match head.set(&mut outc, &mut outs, 2, 1, cnm, snm) {
+        Answer::Done => {
+            show(b"set c ", &outc, duec, 0);
+            show(b"set s ", &outs, dues, 0);
+        }
+        Answer::Refused(_) => {
+            io::write_all(1, b"set refused\n");
+        }
+    }
+}
+
 // The field with special numbers.
 fn special() {
     let c = numbers(&fields::C);
@@ -175,6 +207,7 @@ fn special() {
         &fields::RESCALED_S,
     );
     show_truncated(head, &c, &s, &fields::TRUNCATED_C, &fields::TRUNCATED_S);
+    show_set(head, &fields::C, &fields::S, &fields::SET_C, &fields::SET_S);
 }
 
 // The field with ordinary numbers.
@@ -214,6 +247,13 @@ fn ordinary() {
         &fields::ORDINARY_TRUNCATED_C,
         &fields::ORDINARY_TRUNCATED_S,
     );
+    show_set(
+        head,
+        &fields::ORDINARY_C,
+        &fields::ORDINARY_S,
+        &fields::ORDINARY_SET_C,
+        &fields::ORDINARY_SET_S,
+    );
 }
 
 fn all_factors() {
@@ -251,6 +291,7 @@ fn all_factors() {
 
 fn main() {
     all_factors();
+    show_zeros();
     special();
     ordinary();
 }

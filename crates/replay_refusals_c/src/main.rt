@@ -1,8 +1,10 @@
 // Replays what the C entries refuse by themselves (cases.rt): a number that is no functional's, a tide that is none, lists of fixed lengths. For each
-// entry a line, how many of its refusals, and of the places that it changes in the lists lent to it, are those due.
+// entry a line, how many of its refusals, and of the places that it changes in the lists lent to it, are those due. Then what some entries hand on.
+mod answers;
 mod cases;
 mod entries;
 mod model_files;
+mod values;
 
 use replay_cases::MARK;
 use replay_cases::Seen;
@@ -111,4 +113,5 @@ fn main() {
         &cases::MODEL_WRITE,
         &cases::MODEL_WRITE_DUE,
     );
+    values::show_values();
 }
