@@ -1,5 +1,5 @@
-// Replays what the C entries refuse by themselves (cases.rt): a number that is no functional's, a tide that is none, lists of fixed lengths. For each
-// entry a line, how many of its refusals, and of the places that it changes in the lists lent to it, are those due.
+// Replays what the C entries refuse by themselves (cases.rt): a number that is no functional's, a tide that is none, lists of fixed lengths; and which of
+// two wrong lists they refuse. For each entry a line, how many of its refusals, and of the places that it changes in the lists lent to it, are those due.
 mod cases;
 mod entries;
 mod model_files;
