@@ -250,6 +250,7 @@ fn all_factors() {
 }
 
 fn main() {
+    replay_print::control();
     all_factors();
     special();
     ordinary();

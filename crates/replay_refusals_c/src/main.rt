@@ -81,6 +81,7 @@ fn print(name: &[u8], which: usize, cases: &[u64], due: &[u64])
 }
 
 fn main() {
+    replay_cases::control();
     print(b"factor ", 0, &cases::FACTOR, &cases::FACTOR_DUE);
     print(
         b"degree_amplitudes ",

@@ -125,6 +125,7 @@ fn print_heads() {
 }
 
 fn main() {
+    replay_cases::control();
     print(b"grid ", 0, &cases::GRID, &cases::GRID_DUE);
     print(
         b"basin_average ",
