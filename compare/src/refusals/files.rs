@@ -1,6 +1,6 @@
 //! The calls on model files: damaged copies of one file for the reader, lengths about the stated ones for the writer.
 
-use super::{Call, Input, Output, constants, front, title};
+use super::{Call, Input, Output, constants, distinct, front, title};
 use crate::constants::bytes;
 use crate::model_file::format::{Model, file, file_length, read};
 use crate::refusal::{SHORT, SPACE, pairs};
@@ -42,7 +42,7 @@ fn reader() -> String {
     cases.extend(copies().into_iter().skip(1).step_by(4).map(|copy| (copy, [2, 0])));
     let (mut rows, mut dues) = (Vec::new(), Vec::new());
     let mut heads = Vec::new();
-    for (copy, lengths) in cases {
+    for (copy, lengths) in distinct(cases) {
         let mut bytes = whole.clone();
         (bytes[copy[1]], bytes[copy[3]]) = (copy[2] as u8, copy[4] as u8);
         let mut model = Model::default();

@@ -9,7 +9,7 @@ pub mod values;
 
 use crate::constants::{array, hexadecimal};
 use crate::functional::WATER_HEIGHT;
-use crate::refusal::{Checks, NO_FUNCTIONAL};
+use crate::refusal::{Checks, LENGTH, LOVE, NO_FUNCTIONAL, SPACE};
 
 /// What a list is lent for.
 #[derive(Clone, Copy, PartialEq)]
@@ -19,8 +19,22 @@ enum Kind {
     Love,
     Output,
     Work,
+    /// No list: a single number that is answered, which counts as an output of one place.
+    Value,
 }
-use Kind::{Input, Love, Output, Work};
+use Kind::{Input, Love, Output, Value, Work};
+
+impl Kind {
+    /// The refusal of a list that is too short.
+    fn refusal(self) -> Option<u32> {
+        match self {
+            Input => Some(LENGTH),
+            Love => Some(LOVE),
+            Output | Work => Some(SPACE),
+            Value => None,
+        }
+    }
+}
 
 /// A size that has no limit.
 const ANY: usize = usize::MAX;
@@ -38,6 +52,7 @@ struct Call {
     lists: fn(&[usize]) -> Vec<(Kind, u128)>,
 }
 
+#[derive(Clone, PartialEq)]
 struct Case {
     sizes: Vec<usize>,
     functional: Option<u32>,
@@ -51,18 +66,29 @@ impl Call {
         Case { sizes: sizes.to_vec(), functional: (!self.functionals.is_empty()).then_some(WATER_HEIGHT), lengths }
     }
 
+    /// What the cases go about.
+    fn base(&self) -> Case {
+        self.stated(self.small[self.small.len() - 1])
+    }
+
+    fn kinds(&self) -> Vec<Kind> {
+        (self.lists)(&self.base().sizes).into_iter().map(|(kind, _)| kind).collect()
+    }
+
+    /// The base with the lists at some places one number shorter, and without Love numbers where they are among them.
+    fn shorter(&self, which: &dyn Fn(usize) -> bool) -> Case {
+        let mut case = self.base();
+        for (place, kind) in self.kinds().into_iter().enumerate().filter(|(place, _)| which(*place)) {
+            case.lengths[place] -= if kind == Love { case.lengths[place] } else { 1 };
+        }
+        case
+    }
+
     fn cases(&self) -> Vec<Case> {
         let mut cases: Vec<Case> = self.small.iter().map(|sizes| self.stated(sizes)).collect();
-        let base = || self.stated(self.small[self.small.len() - 1]);
-        let kinds: Vec<Kind> = (self.lists)(&base().sizes).into_iter().map(|(kind, _)| kind).collect();
-        // The base with some lists one place shorter.
-        let shorter = |which: &dyn Fn(Kind) -> bool| {
-            let mut case = base();
-            for (length, &kind) in case.lengths.iter_mut().zip(&kinds).filter(|(_, kind)| which(**kind)) {
-                *length -= if kind == Love { *length } else { 1 };
-            }
-            case
-        };
+        let base = || self.base();
+        let kinds = self.kinds();
+        let shorter = |which: &dyn Fn(Kind) -> bool| self.shorter(&|place| which(kinds[place]));
         // One list shorter or longer.
         for place in 0..kinds.len() {
             for length in [base().lengths[place] - 1, base().lengths[place] + 1] {
@@ -71,8 +97,9 @@ impl Call {
                 cases.push(case);
             }
         }
-        // Two and three mistakes at once.
+        // All lists at once, and two of the three kinds; then two lists alone.
         cases.extend([shorter(&|_| true), shorter(&|kind| kind != Input), shorter(&|kind| kind != Love)]);
+        cases.extend(self.two_lists());
         // The other functionals, without Love numbers.
         for &functional in self.functionals {
             let mut case = shorter(&|kind| kind == Love);
@@ -88,7 +115,15 @@ impl Call {
                 }
             }
         }
-        cases
+        distinct(cases)
+    }
+
+    /// Every two lists that are refused by different numbers, wrong by themselves, so that no mistake in front hides which of the two is checked first.
+    fn two_lists(&self) -> Vec<Case> {
+        let kinds = self.kinds();
+        let differ = |a: Kind, b: Kind| a.refusal().zip(b.refusal()).is_some_and(|(first, second)| first != second);
+        let places = (0..kinds.len()).flat_map(|a| (a + 1..kinds.len()).map(move |b| (a, b)));
+        places.filter(|&(a, b)| differ(kinds[a], kinds[b])).map(|(a, b)| self.shorter(&|place| place == a || place == b)).collect()
     }
 
     fn due(&self, case: &Case) -> u32 {
@@ -111,7 +146,7 @@ impl Call {
 
     /// Every number of a functional, and numbers that are none's: alone, with lists that are too short, and with a size that is too large.
     fn functionals(&self) -> Vec<Case> {
-        let base = || self.stated(self.small[self.small.len() - 1]);
+        let base = || self.base();
         let with = |functional, mut case: Case| {
             case.functional = Some(functional);
             case
@@ -124,7 +159,7 @@ impl Call {
             large.sizes[0] = self.limits[0] + 1;
             cases.extend([with(functional, short), with(functional, large)]);
         }
-        cases
+        distinct(cases)
     }
 
     /// The rows of cases, and what is due of each, as two constants.
@@ -137,20 +172,33 @@ impl Call {
         for case in cases {
             let due = self.due(case);
             let lists = (self.lists)(&case.sizes);
-            let answers = |kind| lists.iter().filter(move |(k, _)| due == 0 && *k == kind).map(|(_, length)| *length as u64);
+            let answers = |kinds: &'static [Kind]| {
+                lists.iter().filter(move |(kind, _)| due == 0 && kinds.contains(kind)).map(|(_, length)| *length as u64)
+            };
             let mut row: Vec<u64> = case.sizes.iter().map(|&size| size as u64).collect();
             row.extend(case.functional.map(u64::from));
             row.extend(case.lengths.iter().map(|&length| length as u64));
             // In the last column the part of the working list that is left free.
             if lists.iter().any(|(kind, _)| *kind == Work) {
                 row.resize(width - 1, 0);
-                row.extend(answers(Work).chain([0]).take(1));
+                row.extend(answers(&[Work]).chain([0]).take(1));
             }
             rows.push(row);
-            dues.push([due as u64, answers(Output).enumerate().map(|(place, length)| front(place, length)).sum()]);
+            dues.push([due as u64, answers(&[Output, Value]).enumerate().map(|(place, length)| front(place, length)).sum()]);
         }
         constants(self.name, width, &rows, &dues)
     }
+}
+
+/// The list without what stands in it before.
+fn distinct<T: PartialEq>(list: Vec<T>) -> Vec<T> {
+    let mut kept = Vec::new();
+    for item in list {
+        if !kept.contains(&item) {
+            kept.push(item);
+        }
+    }
+    kept
 }
 
 /// A list whose first places are changed, as the programs tell it: how many are, times 100, and the place behind the last; each further list

@@ -1,6 +1,6 @@
 //! The calls on models, tables and quadrature.
 
-use super::{ANY, Call, Input, Love, Output, constants, heads, title};
+use super::{ANY, Call, Input, Love, Output, constants, distinct, heads, title};
 use crate::refusal::{Checks, MAX_DEGREE, pairs};
 
 /// The columns of a case.
@@ -78,7 +78,7 @@ fn entries(name: &str, tables: usize, changed: impl Fn(u64) -> u64) -> String {
         cases.extend([(0, 0), (1, 2), (ANY, 0)].map(|place| (nmax, vec![3; tables], place)));
     }
     let (mut rows, mut dues) = (Vec::new(), Vec::new());
-    for (nmax, lengths, (n, m)) in cases {
+    for (nmax, lengths, (n, m)) in distinct(cases) {
         let inputs: Vec<(usize, u128)> = lengths.iter().map(|&length| (length, pairs(nmax))).collect();
         let due = Checks { degree: nmax, inputs: &inputs, place: Some((n, m)), ..Checks::default() }.due();
         rows.push([&[nmax], &lengths[..], &[n, m]].concat().into_iter().map(|x| x as u64).collect::<Vec<u64>>());

@@ -157,3 +157,9 @@ pub fn print_line(name: &[u8], words: &[u64], due: &[u64])
     let k = due.len();
     replay_print::show_words(name, &words[..k], due, 0);
 }
+
+// The control lines of `replay_print`, and one by `print_line`: its second word is not the one due, and it must say "1 of 2".
+pub fn control() {
+    replay_print::control();
+    print_line(b"control of cases ", &[1, 2, 0], &[1, 3]);
+}

@@ -372,6 +372,7 @@ fn both_averages() {
 }
 
 fn main() {
+    replay_print::control();
     grids_of_3();
     show_large_grid();
     both_averages();

@@ -126,6 +126,7 @@ fn print_file(pairs: usize, file: &[u8], head: &[u64; 4], c: &[u64], s: &[u64])
 }
 
 fn main() {
+    replay_cases::control();
     print_file(1, &files::FILE_0, &files::HEAD_0, &files::C_0, &files::S_0);
     print_file(3, &files::FILE_1, &files::HEAD_1, &files::C_1, &files::S_1);
     print_file(6, &files::FILE_2, &files::HEAD_2, &files::C_2, &files::S_2);

@@ -195,6 +195,7 @@ fn show_strange() {
 }
 
 fn main() {
+    replay_print::control();
     show_new();
     show_at(&answers::A, &answers::B, &answers::MIDDLE);
     show_at(&answers::A, &answers::B, &answers::POLE);

@@ -266,6 +266,7 @@ fn all_ones() {
 }
 
 fn main() {
+    replay_print::control();
     all_listed();
     all_dense();
     all_ones();

@@ -290,6 +290,7 @@ fn all_factors() {
 }
 
 fn main() {
+    replay_print::control();
     all_factors();
     show_zeros();
     special();

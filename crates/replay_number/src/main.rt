@@ -161,6 +161,7 @@ fn long_rankings() {
 }
 
 fn main() {
+    replay_print::control();
     roots();
     signs();
     short_rankings();

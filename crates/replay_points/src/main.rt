@@ -227,6 +227,7 @@ fn special_analyses() {
 }
 
 fn main() {
+    replay_print::control();
     show_points(&points::C, &points::S, &points::PARTIALS, &points::LOCAL);
     show_points(
         &points::SPECIAL_C,

@@ -29,3 +29,16 @@ pub fn show_bytes(name: &[u8], answers: &[u8], bytes: &[u8], at: usize)
     let end = replay::bytes_line(name, answers, bytes, at, &mut out);
     io::write_all(1, &out[..end]);
 }
+
+// Prints three lines, one by each function above, of two answers whose second is not the one due. Nothing is promised of what is printed, so that a
+// function that holds a list against itself, or against another part of the list, is proved too; here it says something else than "1 of 2".
+pub fn control() {
+    show(
+        b"control of numbers ",
+        &[1.0, 2.0],
+        &[0, 0x3ff0_0000_0000_0000, 0x4008_0000_0000_0000],
+        1,
+    );
+    show_words(b"control of words ", &[1, 2], &[0, 1, 3], 1);
+    show_bytes(b"control of bytes ", &[1, 2], &[0, 1, 3], 1);
+}

@@ -1,8 +1,8 @@
 // Calls on models and tables: cases, and what is due by document 01's table of refusals.
 // Written by `compare/run replay refusals FILE` (see compare/README.md), never by hand.
 
-// factor: 15 cases of 6 columns
-pub const FACTOR: [u64; 90] = [
+// factor: 13 cases of 6 columns
+pub const FACTOR: [u64; 78] = [
     0,
     5,
     1,
@@ -30,18 +30,6 @@ pub const FACTOR: [u64; 90] = [
     1,
     5,
     0,
-    0,
-    0,
-    0,
-    1,
-    5,
-    0,
-    0,
-    0,
-    0,
-    1,
-    5,
-    2,
     0,
     0,
     0,
@@ -96,7 +84,7 @@ pub const FACTOR: [u64; 90] = [
 ];
 
 // due of each: the refusal, and what changes
-pub const FACTOR_DUE: [u64; 30] = [
+pub const FACTOR_DUE: [u64; 26] = [
     0,
     0,
     0,
@@ -106,10 +94,6 @@ pub const FACTOR_DUE: [u64; 30] = [
     0,
     0,
     5,
-    0,
-    5,
-    0,
-    0,
     0,
     0,
     0,
@@ -129,8 +113,8 @@ pub const FACTOR_DUE: [u64; 30] = [
     0,
 ];
 
-// zeros: 15 cases of 6 columns
-pub const ZEROS: [u64; 90] = [
+// zeros: 13 cases of 6 columns
+pub const ZEROS: [u64; 78] = [
     0,
     1,
     1,
@@ -164,18 +148,6 @@ pub const ZEROS: [u64; 90] = [
     1,
     3,
     4,
-    0,
-    0,
-    0,
-    1,
-    2,
-    2,
-    0,
-    0,
-    0,
-    1,
-    2,
-    2,
     0,
     0,
     0,
@@ -224,7 +196,7 @@ pub const ZEROS: [u64; 90] = [
 ];
 
 // due of each: the refusal, and what changes
-pub const ZEROS_DUE: [u64; 30] = [
+pub const ZEROS_DUE: [u64; 26] = [
     0,
     1010101,
     0,
@@ -243,10 +215,6 @@ pub const ZEROS_DUE: [u64; 30] = [
     0,
     3,
     0,
-    3,
-    0,
-    3,
-    0,
     1,
     0,
     1,
@@ -257,8 +225,8 @@ pub const ZEROS_DUE: [u64; 30] = [
     0,
 ];
 
-// truncated: 23 cases of 6 columns
-pub const TRUNCATED: [u64; 138] = [
+// truncated: 26 cases of 6 columns
+pub const TRUNCATED: [u64; 156] = [
     0,
     0,
     1,
@@ -358,8 +326,26 @@ pub const TRUNCATED: [u64; 138] = [
     2,
     1,
     5,
+    6,
+    2,
+    3,
+    2,
+    1,
+    5,
+    6,
+    3,
+    2,
+    2,
+    1,
+    6,
     5,
     2,
+    3,
+    2,
+    1,
+    6,
+    5,
+    3,
     2,
     2700,
     1,
@@ -400,7 +386,7 @@ pub const TRUNCATED: [u64; 138] = [
 ];
 
 // due of each: the refusal, and what changes
-pub const TRUNCATED_DUE: [u64; 46] = [
+pub const TRUNCATED_DUE: [u64; 52] = [
     0,
     1010101,
     0,
@@ -432,6 +418,12 @@ pub const TRUNCATED_DUE: [u64; 46] = [
     2,
     0,
     3,
+    0,
+    2,
+    0,
+    2,
+    0,
+    2,
     0,
     2,
     0,
@@ -449,8 +441,8 @@ pub const TRUNCATED_DUE: [u64; 46] = [
     0,
 ];
 
-// rescaled: 19 cases of 6 columns
-pub const RESCALED: [u64; 114] = [
+// rescaled: 22 cases of 6 columns
+pub const RESCALED: [u64; 132] = [
     0,
     1,
     1,
@@ -525,8 +517,26 @@ pub const RESCALED: [u64; 114] = [
     0,
     1,
     2,
+    3,
+    2,
+    3,
+    0,
+    1,
+    2,
+    3,
+    3,
+    2,
+    0,
+    1,
+    3,
     2,
     2,
+    3,
+    0,
+    1,
+    3,
+    2,
+    3,
     2,
     0,
     2700,
@@ -568,7 +578,7 @@ pub const RESCALED: [u64; 114] = [
 ];
 
 // due of each: the refusal, and what changes
-pub const RESCALED_DUE: [u64; 38] = [
+pub const RESCALED_DUE: [u64; 44] = [
     0,
     1010101,
     0,
@@ -592,6 +602,12 @@ pub const RESCALED_DUE: [u64; 38] = [
     2,
     0,
     3,
+    0,
+    2,
+    0,
+    2,
+    0,
+    2,
     0,
     2,
     0,
@@ -666,13 +682,13 @@ pub const DEGREE_VARIANCES: [u64; 102] = [
     0,
     0,
     1,
-    3,
-    3,
-    1,
-    0,
-    0,
-    1,
     2,
+    3,
+    1,
+    0,
+    0,
+    1,
+    3,
     2,
     1,
     0,
@@ -735,7 +751,7 @@ pub const DEGREE_VARIANCES_DUE: [u64; 34] = [
     202,
     2,
     0,
-    3,
+    2,
     0,
     2,
     0,
@@ -753,8 +769,8 @@ pub const DEGREE_VARIANCES_DUE: [u64; 34] = [
     0,
 ];
 
-// degree_amplitudes: 21 cases of 6 columns
-pub const DEGREE_AMPLITUDES: [u64; 126] = [
+// degree_amplitudes: 25 cases of 6 columns
+pub const DEGREE_AMPLITUDES: [u64; 150] = [
     0,
     5,
     1,
@@ -830,6 +846,30 @@ pub const DEGREE_AMPLITUDES: [u64; 126] = [
     1,
     5,
     2,
+    2,
+    2,
+    1,
+    1,
+    5,
+    2,
+    3,
+    0,
+    2,
+    1,
+    5,
+    2,
+    3,
+    2,
+    1,
+    1,
+    5,
+    3,
+    2,
+    0,
+    2,
+    1,
+    5,
+    3,
     2,
     2,
     1,
@@ -884,7 +924,7 @@ pub const DEGREE_AMPLITUDES: [u64; 126] = [
 ];
 
 // due of each: the refusal, and what changes
-pub const DEGREE_AMPLITUDES_DUE: [u64; 42] = [
+pub const DEGREE_AMPLITUDES_DUE: [u64; 50] = [
     0,
     101,
     0,
@@ -911,6 +951,14 @@ pub const DEGREE_AMPLITUDES_DUE: [u64; 42] = [
     0,
     2,
     0,
+    2,
+    0,
+    2,
+    0,
+    2,
+    0,
+    2,
+    0,
     0,
     202,
     0,
@@ -929,8 +977,8 @@ pub const DEGREE_AMPLITUDES_DUE: [u64; 42] = [
     0,
 ];
 
-// legendre_new: 15 cases of 6 columns
-pub const LEGENDRE_NEW: [u64; 90] = [
+// legendre_new: 13 cases of 6 columns
+pub const LEGENDRE_NEW: [u64; 78] = [
     0,
     1,
     1,
@@ -964,18 +1012,6 @@ pub const LEGENDRE_NEW: [u64; 90] = [
     1,
     3,
     4,
-    0,
-    0,
-    0,
-    1,
-    2,
-    2,
-    0,
-    0,
-    0,
-    1,
-    2,
-    2,
     0,
     0,
     0,
@@ -1024,7 +1060,7 @@ pub const LEGENDRE_NEW: [u64; 90] = [
 ];
 
 // due of each: the refusal, and what changes
-pub const LEGENDRE_NEW_DUE: [u64; 30] = [
+pub const LEGENDRE_NEW_DUE: [u64; 26] = [
     0,
     1010101,
     0,
@@ -1037,10 +1073,6 @@ pub const LEGENDRE_NEW_DUE: [u64; 30] = [
     0,
     0,
     3030303,
-    3,
-    0,
-    3,
-    0,
     3,
     0,
     3,
@@ -1114,13 +1146,13 @@ pub const LEGENDRE_COMPUTE: [u64; 102] = [
     0,
     0,
     1,
-    3,
+    2,
     3,
     2,
     0,
     0,
     1,
-    2,
+    3,
     2,
     2,
     0,
@@ -1183,7 +1215,7 @@ pub const LEGENDRE_COMPUTE_DUE: [u64; 34] = [
     303,
     2,
     0,
-    3,
+    2,
     0,
     2,
     0,
@@ -1201,8 +1233,8 @@ pub const LEGENDRE_COMPUTE_DUE: [u64; 34] = [
     0,
 ];
 
-// compute_with_derivative: 19 cases of 6 columns
-pub const COMPUTE_WITH_DERIVATIVE: [u64; 114] = [
+// compute_with_derivative: 22 cases of 6 columns
+pub const COMPUTE_WITH_DERIVATIVE: [u64; 132] = [
     0,
     1,
     1,
@@ -1277,8 +1309,26 @@ pub const COMPUTE_WITH_DERIVATIVE: [u64; 114] = [
     0,
     1,
     2,
+    3,
+    2,
+    3,
+    0,
+    1,
+    2,
+    3,
+    3,
+    2,
+    0,
+    1,
+    3,
     2,
     2,
+    3,
+    0,
+    1,
+    3,
+    2,
+    3,
     2,
     0,
     2700,
@@ -1320,7 +1370,7 @@ pub const COMPUTE_WITH_DERIVATIVE: [u64; 114] = [
 ];
 
 // due of each: the refusal, and what changes
-pub const COMPUTE_WITH_DERIVATIVE_DUE: [u64; 38] = [
+pub const COMPUTE_WITH_DERIVATIVE_DUE: [u64; 44] = [
     0,
     1010101,
     0,
@@ -1351,6 +1401,12 @@ pub const COMPUTE_WITH_DERIVATIVE_DUE: [u64; 38] = [
     0,
     2,
     0,
+    2,
+    0,
+    2,
+    0,
+    2,
+    0,
     1,
     0,
     1,
@@ -1361,8 +1417,8 @@ pub const COMPUTE_WITH_DERIVATIVE_DUE: [u64; 38] = [
     0,
 ];
 
-// gauss_legendre: 19 cases of 6 columns
-pub const GAUSS_LEGENDRE: [u64; 114] = [
+// gauss_legendre: 20 cases of 6 columns
+pub const GAUSS_LEGENDRE: [u64; 120] = [
     0,
     0,
     0,
@@ -1438,6 +1494,12 @@ pub const GAUSS_LEGENDRE: [u64; 114] = [
     3,
     1,
     2,
+    3,
+    0,
+    0,
+    3,
+    1,
+    3,
     2,
     0,
     0,
@@ -1480,7 +1542,7 @@ pub const GAUSS_LEGENDRE: [u64; 114] = [
 ];
 
 // due of each: the refusal, and what changes
-pub const GAUSS_LEGENDRE_DUE: [u64; 38] = [
+pub const GAUSS_LEGENDRE_DUE: [u64; 40] = [
     0,
     0,
     0,
@@ -1504,6 +1566,8 @@ pub const GAUSS_LEGENDRE_DUE: [u64; 38] = [
     2,
     0,
     3,
+    0,
+    2,
     0,
     2,
     0,

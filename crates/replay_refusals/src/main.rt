@@ -171,6 +171,7 @@ fn print_rescaled_heads() {
 }
 
 fn main() {
+    replay_cases::control();
     print_models();
     print_tables();
     print_zeros_heads();

@@ -1,5 +1,6 @@
-// Replays what the C entries refuse by themselves (cases.rt): a number that is no functional's, a tide that is none, lists of fixed lengths. For each
-// entry a line, how many of its refusals, and of the places that it changes in the lists lent to it, are those due. Then what some entries hand on.
+// Replays what the C entries refuse by themselves (cases.rt): a number that is no functional's, a tide that is none, lists of fixed lengths; and which of
+// two wrong lists they refuse. For each entry a line, how many of its refusals, and of the places that it changes in the lists lent to it, are those due.
+// Then what some entries hand on (values.rt).
 mod answers;
 mod cases;
 mod entries;
@@ -83,6 +84,7 @@ fn print(name: &[u8], which: usize, cases: &[u64], due: &[u64])
 }
 
 fn main() {
+    replay_cases::control();
     print(b"factor ", 0, &cases::FACTOR, &cases::FACTOR_DUE);
     print(
         b"degree_amplitudes ",

@@ -68,9 +68,9 @@ fn run(which: usize, cases: &[u64], out: &mut [u64])
 }
 
 fn print(name: &[u8], which: usize, cases: &[u64], due: &[u64])
-    requires { ⌜ length (now name) ≤ 80 ⌝ ∗ ⌜ length (now cases) ≤ 600 ⌝ ∗ ⌜ length (now due) ≤ 100 ⌝ }
+    requires { ⌜ length (now name) ≤ 80 ⌝ ∗ ⌜ length (now cases) ≤ 720 ⌝ ∗ ⌜ length (now due) ≤ 120 ⌝ }
 {
-    let mut out = [0u64; 100];
+    let mut out = [0u64; 120];
     run(which, cases, &mut out);
     replay_cases::print_line(name, &out, due);
 }
@@ -125,6 +125,7 @@ fn print_heads() {
 }
 
 fn main() {
+    replay_cases::control();
     print(b"grid ", 0, &cases::GRID, &cases::GRID_DUE);
     print(
         b"basin_average ",

@@ -78,8 +78,8 @@ pub const FILE: [u8; 73] = [
     3,
 ];
 
-// read: 86 cases of 8 columns
-pub const READ: [u64; 688] = [
+// read: 85 cases of 8 columns
+pub const READ: [u64; 680] = [
     72,
     0,
     1,
@@ -101,14 +101,6 @@ pub const READ: [u64; 688] = [
     0,
     0,
     0,
-    4,
-    4,
-    0,
-    72,
-    0,
-    1,
-    0,
-    1,
     4,
     4,
     0,
@@ -771,15 +763,13 @@ pub const READ: [u64; 688] = [
 ];
 
 // due of each: the refusal, and what changes
-pub const READ_DUE: [u64; 172] = [
+pub const READ_DUE: [u64; 170] = [
     0,
     3030303,
     8,
     0,
     7,
     0,
-    0,
-    3030303,
     7,
     0,
     7,
@@ -947,15 +937,13 @@ pub const READ_DUE: [u64; 172] = [
 ];
 
 // due of the head alone, and of the whole file without lists
-pub const VERDICT_DUE: [u64; 172] = [
+pub const VERDICT_DUE: [u64; 170] = [
     0,
     0,
     0,
     8,
     7,
     7,
-    0,
-    0,
     7,
     7,
     7,
@@ -1189,7 +1177,7 @@ pub const WRITE: [u64; 128] = [
     0,
     0,
     0,
-    1,
+    0,
     1,
     37,
     0,
@@ -1197,7 +1185,7 @@ pub const WRITE: [u64; 128] = [
     0,
     0,
     0,
-    0,
+    1,
     0,
     37,
     0,
@@ -1272,7 +1260,7 @@ pub const WRITE_DUE: [u64; 32] = [
     3838,
     2,
     0,
-    3,
+    2,
     0,
     2,
     0,

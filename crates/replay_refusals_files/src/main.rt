@@ -158,6 +158,7 @@ fn print(name: &[u8], which: usize, cases: &[u64], due: &[u64])
 }
 
 fn main() {
+    replay_cases::control();
     print(b"read ", 0, &cases::READ, &cases::READ_DUE);
     print(b"head and verdict ", 1, &cases::READ, &cases::VERDICT_DUE);
     print(b"write ", 2, &cases::WRITE, &cases::WRITE_DUE);
