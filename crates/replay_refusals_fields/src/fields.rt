@@ -78,10 +78,7 @@ pub fn basin_average(case: &[u64], list: &[f64]) -> u64
 }
 
 fn of_point(a: Point) -> u64 {
-    match a {
-        Point::Refused(e) => refusal::refusal_number(e) as u64,
-        Point::At(_) => 0,
-    }
+    local::point_number(a) as u64
 }
 
 // N, and the lengths of c, s, of the cosines and sines and of the working list.

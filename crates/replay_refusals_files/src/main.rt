@@ -49,10 +49,7 @@ fn damaged(case: &[u64]) -> [u8; 73] {
 }
 
 fn of_reading(a: Reading) -> u64 {
-    match a {
-        Reading::Refused(e) => refusal::refusal_number(e) as u64,
-        Reading::Model(_) => 0,
-    }
+    model_file::reading_number(a) as u64
 }
 
 // A copy's length, two places and bytes, and the lengths of c and s.
