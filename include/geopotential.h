@@ -28,7 +28,7 @@ extern "C" {
 
 /* The version of these entries, raised wherever an entry's parameters or the meaning of its answer change. A build compares the two:
  * an object compiled against another header would link, and pass wrong parameters. */
-#define GEOPOTENTIAL_VERSION 1
+#define GEOPOTENTIAL_VERSION 2
 uint32_t geopotential_version(void);
 
 /* What a call answers. */
@@ -83,7 +83,8 @@ uint32_t geopotential_ranks_before(double x, double y);
 uint32_t geopotential_factor(uint32_t functional, const double *love, size_t love_len, size_t n, double gm, double radius, double r,
                              double *value);
 
-/* ---- coefficients of a field up to degree nmax: c and s of T numbers */
+/* ---- coefficients of a field up to degree nmax: c and s of T numbers. These entries take and hand back no tide system and no date: a field keeps
+ * both when it is cut or rescaled, and one that is newly made (zeros, analysis) has the tide system unknown and no date. */
 
 /* Zeros at the front of c and s. Refused by 1, 3. */
 uint32_t geopotential_zeros(double gm, double radius, size_t nmax, double *c, size_t c_len, double *s, size_t s_len);
@@ -109,13 +110,15 @@ uint32_t geopotential_degree_amplitudes(double gm, double radius, size_t nmax, c
 
 /* ---- model files: numbers by their bit patterns */
 
-/* Reads a file: T patterns to c and to s, and to head the patterns of gm and radius, the tide system and N. Refused by 6, 7, 9, 1, 8 in the
- * order of the file, then 3. */
+/* Reads a file: T patterns to c and to s, and to head six words: the patterns of gm and radius, the tide system, N, 1 where the file states a
+ * date and 0 where it states none, and the 32 bits of the date (0 where none is stated): a signed count of days from 2000-01-01, two's
+ * complement, so (int32_t)(uint32_t)head[5] is the count. Refused by 6, 7, 9, 1, 8 in the order of the file, then 3. */
 uint32_t geopotential_model_read(const uint8_t *bytes, size_t bytes_len, uint64_t *c, size_t c_len, uint64_t *s, size_t s_len,
                                  uint64_t *head, size_t head_len);
-/* Writes a file, 21 + 17 T bytes. Refused by 9, then 1, 2, 3. */
-uint32_t geopotential_model_write(uint64_t gm, uint64_t radius, uint32_t tide, size_t nmax, const uint64_t *c, size_t c_len,
-                                  const uint64_t *s, size_t s_len, uint8_t *out, size_t out_len);
+/* Writes a file. dated 0 states no date, and days is not read: 21 + 17 T bytes. Any other dated states days from 2000-01-01: 25 + 17 T bytes.
+ * Refused by 9, then 1, 2, 3. */
+uint32_t geopotential_model_write(uint64_t gm, uint64_t radius, uint32_t tide, uint32_t dated, int32_t days, size_t nmax, const uint64_t *c,
+                                  size_t c_len, const uint64_t *s, size_t s_len, uint8_t *out, size_t out_len);
 
 /* ---- tables of the fully normalized Legendre functions, T numbers each */
 
@@ -211,9 +214,9 @@ uint32_t geopotential_truncated_lengths(size_t nmax, size_t cut, size_t *lengths
 uint32_t geopotential_rescaled_lengths(size_t nmax, size_t *lengths, size_t lengths_len);              /* c, s, outc, outs */
 uint32_t geopotential_degree_variances_lengths(size_t nmax, size_t *lengths, size_t lengths_len);      /* c, s, out */
 uint32_t geopotential_degree_amplitudes_lengths(size_t nmax, size_t *lengths, size_t lengths_len);     /* c, s, love, out */
-/* bytes, c, s, head, by the first 20 bytes of a file; refused by its head as in model_read. */
+/* bytes, c, s, head, by the first 20 bytes of a file, or 24 where it is dated (its first byte is 4); refused by its head as in model_read. */
 uint32_t geopotential_model_read_lengths(const uint8_t *bytes, size_t bytes_len, size_t *lengths, size_t lengths_len);
-uint32_t geopotential_model_write_lengths(size_t nmax, size_t *lengths, size_t lengths_len);                      /* c, s, out */
+uint32_t geopotential_model_write_lengths(size_t nmax, uint32_t dated, size_t *lengths, size_t lengths_len);      /* c, s, out */
 uint32_t geopotential_legendre_new_lengths(size_t nmax, size_t *lengths, size_t lengths_len);                     /* a, b */
 uint32_t geopotential_legendre_compute_lengths(size_t nmax, size_t *lengths, size_t lengths_len);                 /* a, b, p */
 uint32_t geopotential_legendre_compute_with_derivative_lengths(size_t nmax, size_t *lengths, size_t lengths_len); /* a, b, p, dp */

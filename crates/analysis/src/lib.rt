@@ -2,6 +2,7 @@
 mod rows;
 mod workspace;
 
+use coefficients::Date;
 use coefficients::Head;
 use coefficients::Model;
 use coefficients::TideSystem;
@@ -146,6 +147,7 @@ pub fn analysis(
                 gm,
                 radius,
                 tide_system: TideSystem::Unknown,
+                date: Date::None,
                 nmax,
             })
         }

@@ -1,14 +1,17 @@
--- Document 01's numbers of a tide system and of an answer that makes a field. Assumes nothing.
+-- Document 01's numbers of a tide system and of an answer that makes a field, and a date as C has it. Assumes nothing.
 use mathlib.Core.Path.{_≡_, refl, ap}
 use mathlib.Core.Bool.{cond}
 use Prim.Native.Nat.{ℕ, zero, suc, _≤_}
 use native.Mathlib.Omega.{arith}
 use lib.Dec.{eqb}
+use lib.IntN.{ℤ, pos}
 use Rattle.refusal.specs.Numbers.{answerNumber}
 use Rattle.refusal.specs.declared.Refusal.{Refusal}
 use Rattle.refusal.specs.declared.Answer.{Answer}
 use Rattle.refusal.specs.declared.Answer.the-variants.{Done}
 use Rattle.refusal.specs.declared.Answer.the-variants.{Refused as NotDone}
+use Rattle.coefficients.specs.declared.Date.{Date}
+use Rattle.coefficients.specs.declared.Date.the-variants.{None, Days}
 use Rattle.coefficients.specs.declared.Head.{Head}
 use Rattle.coefficients.specs.declared.Model.{Model}
 use Rattle.coefficients.specs.declared.Model.the-variants.{Made, Refused}
@@ -45,6 +48,23 @@ tide-forth (suc zero) h = refl
 tide-forth (suc (suc zero)) h = refl
 tide-forth (suc (suc (suc zero))) h = refl
 tide-forth (suc (suc (suc (suc b)))) h = absurd (omega arith)
+
+-- ---- a date at the entries for C: whether one is stated, 0 or 1, and the day count, 0 where none is
+abbrev pub datedNumber : Date → ℕ
+datedNumber None = 0
+datedNumber (Days d) = 1
+
+abbrev pub dayCount : Date → ℤ
+dayCount None = pos 0
+dayCount (Days d) = d
+
+-- the date of the two; every number but 0 states one
+abbrev pub dateOf : ℕ → ℤ → Date
+dateOf dated days = cond (eqb dated 0) None (Days days)
+
+pub date-back : (d : Date) → dateOf (datedNumber d) (dayCount d) ≡ d
+date-back None = refl
+date-back (Days d) = refl
 
 -- ---- an answer that makes a field
 

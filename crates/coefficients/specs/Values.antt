@@ -15,16 +15,17 @@ use Rattle.functional.specs.Factor.{factorOf}
 use Rattle.functional.specs.declared.Functional.{Functional}
 use Rattle.coefficients.specs.declared.Head.{Head}
 use Rattle.coefficients.specs.declared.TideSystem.the-variants.{Unknown}
+use Rattle.coefficients.specs.declared.Date.the-variants.{None}
 
 -- ---- the heads of the fields that are made
 abbrev pub zeroHead : Float → Float → ℕ → Head
-zeroHead gm radius nmax = record { gm = gm; radius = radius; «tide_system» = Unknown; nmax = nmax }
+zeroHead gm radius nmax = record { gm = gm; radius = radius; «tide_system» = Unknown; date = None; nmax = nmax }
 
 abbrev pub cutHead : Head → ℕ → Head
-cutHead h cut = record { gm = h .gm; radius = h .radius; «tide_system» = h .«tide_system»; nmax = min cut (h .nmax) }
+cutHead h cut = record { gm = h .gm; radius = h .radius; «tide_system» = h .«tide_system»; date = h .date; nmax = min cut (h .nmax) }
 
 abbrev pub rescaledHead : Head → Float → Float → Head
-rescaledHead h gm radius = record { gm = gm; radius = radius; «tide_system» = h .«tide_system»; nmax = h .nmax }
+rescaledHead h gm radius = record { gm = gm; radius = radius; «tide_system» = h .«tide_system»; date = h .date; nmax = h .nmax }
 
 -- ---- entries
 -- C(n,m) times (GM/GM') (R/R')^n, where q and t are the two quotients: the quotient first, then times the power

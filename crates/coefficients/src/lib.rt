@@ -17,7 +17,7 @@ ghost use Rattle.number.specs.Float64.{_⊘_};
 ghost use Rattle.storage.specs.Elements.{zeroAt, from};
 ghost use Rattle.storage.specs.Fill.{fill};
 ghost use Rattle.storage.specs.Triangle.{idx, tableSize, along};
-ghost use Rattle.coefficients.specs.Model.{tideNumber, tideOf, outcome, modelNumber, modelOf};
+ghost use Rattle.coefficients.specs.Model.{tideNumber, tideOf, datedNumber, dateOf, outcome, modelNumber, modelOf};
 ghost use Rattle.storage.specs.Checks.{roomCheck, entryAnswer, outputsCheck};
 ghost use Rattle.coefficients.specs.Checks.{setCheck, variancesCheck, amplitudesCheck};
 ghost use Rattle.coefficients.specs.Values.{zeroHead, cutHead, rescaledHead, rescaledEntry, varianceOf, amplitudeOf};
@@ -34,6 +34,12 @@ pub enum TideSystem {
     Unknown,
 }
 
+// The day of a field: none stated, or days from 2000-01-01.
+pub enum Date {
+    None,
+    Days(i32),
+}
+
 // What belongs to a field beside its coefficients.
 pub struct Head {
     // geocentric gravitational constant GM, m³/s²
@@ -42,6 +48,8 @@ pub struct Head {
     pub radius: f64,
     // tide system of C(2,0)
     pub tide_system: TideSystem,
+    // day of the field
+    pub date: Date,
     // maximum degree N
     pub nmax: usize,
 }
@@ -79,6 +87,26 @@ pub fn tide_of(number: u32) -> TideSystem
     }
 }
 
+// Whether a date is stated: 0 or 1.
+pub fn dated_number(date: Date) -> u32
+    ensures { λ r. ⌜ r ≡ datedNumber date ⌝ }
+{
+    match date {
+        Date::None => 0,
+        Date::Days(_) => 1,
+    }
+}
+
+// The date of such a number and a day count; every number but 0 states one.
+pub fn date_of(dated: u32, days: i32) -> Date
+    ensures { λ r. ⌜ r ≡ dateOf dated days ⌝ }
+{
+    if dated == 0 {
+        return Date::None;
+    }
+    Date::Days(days)
+}
+
 // 0 where the field is made, else the number of the refusal.
 pub fn model_number(a: Model) -> u32
     ensures { λ r. ⌜ r ≡ modelNumber a ⌝ }
@@ -112,6 +140,7 @@ impl Head {
             gm,
             radius,
             tide_system: TideSystem::Unknown,
+            date: Date::None,
             nmax,
         })
     }
@@ -172,6 +201,7 @@ impl Head {
     {
         let nmax = self.nmax;
         let tide = self.tide_system;
+        let day = self.date;
         let top = storage::smaller(cut, nmax);
         match storage::outputs_check(nmax, c.len(), s.len(), top, outc.len(), outs.len()) {
             Answer::Refused(e) => Model::Refused(e),
@@ -183,6 +213,7 @@ impl Head {
                     gm: self.gm,
                     radius: self.radius,
                     tide_system: tide,
+                    date: day,
                     nmax: top,
                 })
             }
@@ -212,6 +243,7 @@ impl Head {
     {
         let nmax = self.nmax;
         let tide = self.tide_system;
+        let date = self.date;
         match storage::outputs_check(nmax, c.len(), s.len(), nmax, outc.len(), outs.len()) {
             Answer::Refused(e) => Model::Refused(e),
             Answer::Done => {
@@ -220,6 +252,7 @@ impl Head {
                     gm,
                     radius,
                     tide_system: tide,
+                    date,
                     nmax,
                 })
             }

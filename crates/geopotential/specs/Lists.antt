@@ -11,7 +11,7 @@ use Rattle.refusal.specs.declared.Answer.the-variants.{Done}
 use Rattle.refusal.specs.declared.Refusal.the-variants.{Space}
 use Rattle.storage.specs.Checks.{done-then}
 use Rattle.model_file.specs.declared.FileHead.{FileHead}
-use Rattle.model_file.specs.Format.{headOf, parse, model}
+use Rattle.model_file.specs.Format.{headSize, headOf, parse, model}
 use Rattle.lengths.specs.Lengths.{degreeSize, partialsLengths, threeLengths, readLengths}
 use Rattle.lengths.specs.Enough.{partials-enough, read-enough}
 use Rattle.geopotential.specs.Files.{modelRead, read-model}
@@ -28,8 +28,8 @@ pub three-enough : (out : ℕ) → out ∷ [] ≡ threeLengths → Done ≡ thre
 unfolding threeLengths
 three-enough out e = let o : out ≡ 3 = cc in three-done out (omega arith)
 
--- an accepted file, told by its first 20 bytes or more
-pub file-enough : (file : List ℕ) (h : FileHead) (cs ss : List ℕ) → parse file ≡ model h cs ss → (front : ℕ) → 20 ≤ front → front ≤ length file
+-- an accepted file, told by its head's bytes or more
+pub file-enough : (file : List ℕ) (h : FileHead) (cs ss : List ℕ) → parse file ≡ model h cs ss → (front : ℕ) → headSize (h .date) ≤ front → front ≤ length file
     → (bytes c s head : ℕ) → bytes ∷ c ∷ s ∷ head ∷ [] ≡ readLengths (headOf (take front file))
     → (length file ≡ bytes) × (Done ≡ modelRead (parse file) c s head)
 file-enough file h cs ss p front b l bytes c s head e =

@@ -1,4 +1,5 @@
 // The calls that turn a field into values: on a grid, and averaged over a basin.
+use coefficients::Date;
 use coefficients::Head;
 use coefficients::TideSystem;
 ghost use mathlib.Core.Path.{_≡_};
@@ -59,6 +60,7 @@ pub extern "C" fn geopotential_grid(
         gm,
         radius,
         tide_system: TideSystem::Unknown,
+        date: Date::None,
         nmax,
     };
     refusal::answer_number(synthesis::grid(
@@ -110,12 +112,14 @@ pub extern "C" fn geopotential_basin_average(
         gm,
         radius,
         tide_system: TideSystem::Unknown,
+        date: Date::None,
         nmax,
     };
     let kernel = Head {
         gm,
         radius,
         tide_system: TideSystem::Unknown,
+        date: Date::None,
         nmax: kmax,
     };
     refusal::hand_on(

@@ -9,7 +9,7 @@ mod caps;
 pub mod fields;
 pub mod files;
 pub mod functionals;
-mod lists;
+pub mod lists;
 mod matrices;
 pub mod models;
 mod numbers;

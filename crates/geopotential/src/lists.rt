@@ -86,7 +86,7 @@ pub extern "C" fn geopotential_degree_amplitudes_lengths(nmax: usize, lengths: &
     refusal::answer_number(lengths::degree_amplitudes(nmax, lengths))
 }
 
-// By the head of a file: its first 20 bytes are enough.
+// By the head of a file: its first 20 bytes are enough, 24 with a date.
 #[no_mangle]
 pub extern "C" fn geopotential_model_read_lengths(bytes: &[u8], lengths: &mut [usize]) -> u32
     ensures { λ x. ⌜ x ≡ answerNumber (lengthsCheck (readSizes (headOf (now (bytes .entry)))) (readLengths (headOf (now (bytes .entry))))
@@ -98,11 +98,15 @@ pub extern "C" fn geopotential_model_read_lengths(bytes: &[u8], lengths: &mut [u
 }
 
 #[no_mangle]
-pub extern "C" fn geopotential_model_write_lengths(nmax: usize, lengths: &mut [usize]) -> u32
-    ensures { λ x. ⌜ x ≡ answerNumber (lengthsCheck (degreeSize nmax) (writeLengths nmax) (length (now (lengths .entry)))) ⌝ }
-    ensures { λ x. ⌜ now (lengths .exit) ≡ lengthsAfter (degreeSize nmax) (writeLengths nmax) (now (lengths .entry)) ⌝ }
+pub extern "C" fn geopotential_model_write_lengths(
+    nmax: usize,
+    dated: u32,
+    lengths: &mut [usize],
+) -> u32
+    ensures { λ x. ⌜ x ≡ answerNumber (lengthsCheck (degreeSize nmax) (writeLengths nmax dated) (length (now (lengths .entry)))) ⌝ }
+    ensures { λ x. ⌜ now (lengths .exit) ≡ lengthsAfter (degreeSize nmax) (writeLengths nmax dated) (now (lengths .entry)) ⌝ }
 {
-    refusal::answer_number(lengths::model_write(nmax, lengths))
+    refusal::answer_number(lengths::model_write(nmax, dated, lengths))
 }
 
 #[no_mangle]

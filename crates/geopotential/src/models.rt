@@ -1,4 +1,5 @@
 // The calls of the crate coefficients. Where a call takes no gm and radius, its answer does not depend on them.
+use coefficients::Date;
 use coefficients::Head;
 use coefficients::Model;
 use coefficients::TideSystem;
@@ -47,6 +48,7 @@ pub extern "C" fn geopotential_coefficient_c(
         gm: 1.0,
         radius: 1.0,
         tide_system: TideSystem::Unknown,
+        date: Date::None,
         nmax,
     };
     refusal::hand_on(head.c(c, n, m), value)
@@ -67,6 +69,7 @@ pub extern "C" fn geopotential_coefficient_s(
         gm: 1.0,
         radius: 1.0,
         tide_system: TideSystem::Unknown,
+        date: Date::None,
         nmax,
     };
     refusal::hand_on(head.s(s, n, m), value)
@@ -90,6 +93,7 @@ pub extern "C" fn geopotential_set(
         gm: 1.0,
         radius: 1.0,
         tide_system: TideSystem::Unknown,
+        date: Date::None,
         nmax,
     };
     refusal::answer_number(head.set(c, s, n, m, cnm, snm))
@@ -129,6 +133,7 @@ pub extern "C" fn geopotential_truncated(
         gm: 1.0,
         radius: 1.0,
         tide_system: TideSystem::Unknown,
+        date: Date::None,
         nmax,
     };
     hand_on_degree(head.truncated(c, s, cut, outc, outs), degree)
@@ -154,6 +159,7 @@ pub extern "C" fn geopotential_rescaled(
         gm,
         radius,
         tide_system: TideSystem::Unknown,
+        date: Date::None,
         nmax,
     };
     coefficients::model_number(head.rescaled(c, s, newgm, newradius, outc, outs))
@@ -173,6 +179,7 @@ pub extern "C" fn geopotential_degree_variances(
         gm: 1.0,
         radius: 1.0,
         tide_system: TideSystem::Unknown,
+        date: Date::None,
         nmax,
     };
     refusal::answer_number(head.degree_variances(c, s, out))
@@ -201,6 +208,7 @@ pub extern "C" fn geopotential_degree_amplitudes(
         gm,
         radius,
         tide_system: TideSystem::Unknown,
+        date: Date::None,
         nmax,
     };
     refusal::answer_number(head.degree_amplitudes(c, s, f, love, out))

@@ -1,4 +1,5 @@
 // The calls of the crate partials: the derivatives of a field at points, and local accelerations.
+use coefficients::Date;
 use coefficients::Head;
 use coefficients::TideSystem;
 use legendre::Latitude;
@@ -52,6 +53,7 @@ pub extern "C" fn geopotential_partials(
         gm,
         radius,
         tide_system: TideSystem::Unknown,
+        date: Date::None,
         nmax,
     };
     let radii = [r];
@@ -108,6 +110,7 @@ pub extern "C" fn geopotential_partials_along(
         gm,
         radius,
         tide_system: TideSystem::Unknown,
+        date: Date::None,
         nmax,
     };
     refusal::answer_number(partials::partials_along(

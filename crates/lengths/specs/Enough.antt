@@ -27,9 +27,13 @@ use Rattle.coefficients.specs.Checks.{variancesCheck, amplitudesCheck, setCheck
 use Rattle.model_file.specs.declared.FileHead.{FileHead}
 use Rattle.model_file.specs.declared.Reading.{Reading}
 use Rattle.model_file.specs.declared.Reading.the-variants.{Model}
-use Rattle.model_file.specs.Format.{headOf, refuseReading, parse, model}
+use lib.IntN.{ℤ, pos}
+use Rattle.coefficients.specs.Model.{dateOf}
+use Rattle.model_file.specs.Dates.{size-of-any-day}
+use Rattle.model_file.specs.Head.{headed}
+use Rattle.model_file.specs.Format.{headSize, fileSize, dateAt, headOf, refuseReading, parse, model, render}
 use Rattle.model_file.specs.Answers.{readAnswer, writeAnswer, write-done}
-use Rattle.model_file.specs.RoundTrip.{accepted, parse-table, parse-length}
+use Rattle.model_file.specs.RoundTrip.{accepted, parse-table, parse-length, length-render}
 use Rattle.model_file.specs.Truncation.{head-front}
 use Rattle.legendre.specs.Checks.{computeCheck, compute-done}
 use Rattle.quadrature.specs.Gauss.{guessCount, gaussCheck}
@@ -158,14 +162,27 @@ module _ (N : ℕ) (ok : Done ≡ degreeSize N) where
       (sym (refuse-no Love _ (love-told f love N l) ∙ refuse-no Space Done (lt-leb out N (omega arith))))
 
   -- `model_write`
-  pub write-enough : (c s out : ℕ) → c ∷ s ∷ out ∷ [] ≡ writeLengths N → Done ≡ writeAnswer N c s out
+  pub write-enough : (dated : ℕ) (days : ℤ) (c s out : ℕ) → c ∷ s ∷ out ∷ [] ≡ writeLengths N dated → Done ≡ writeAnswer (dateOf dated days) N c s out
   unfolding writeLengths
-  write-enough c s out e =
+  write-enough dated days c s out e =
       let p : c ≡ tableSize N = cc in
       let q : s ≡ tableSize N = cc in
-      let o : out ≡ 21 + 17 * tableSize N = cc in
+      let o : out ≡ fileSize (dateOf dated (pos 0)) N = cc in
       let k = size-is N top in
-      write-done N c s out top (sizeOf N) refl (omega arith) (omega arith) (omega arith)
+      let any = size-of-any-day dated (pos 0) days in
+      write-done (dateOf dated days) N c s out top (sizeOf N) refl (omega arith) (omega arith) (omega arith)
+
+  -- and the bytes told are those of the file, no more
+  pub write-exact : (dated : ℕ) (days : ℤ) (h : FileHead) (c s : List ℕ) (out : ℕ) → h .date ≡ dateOf dated days
+      → length c ∷ length s ∷ out ∷ [] ≡ writeLengths N dated → length (render h c s) ≡ out
+  unfolding writeLengths
+  write-exact dated days h c s out d e =
+      let p : length c ≡ tableSize N = cc in
+      let q : length s ≡ tableSize N = cc in
+      let o : out ≡ fileSize (dateOf dated (pos 0)) N = cc in
+      let any = size-of-any-day dated (pos 0) days in
+      let size : headSize (h .date) ≡ headSize (dateOf dated days) = ap headSize d in
+      omega (arith, length-render h c s (p ∙ sym q))
 
   -- `factor`
   pub factor-enough : (f : Functional) (love : List Float) (gm radius r : Float) → length love ∷ [] ≡ factorLengths N
@@ -292,18 +309,20 @@ read-room h cs ss c s p q = simp (le-ltb c (length cs) p, le-ltb s (length ss) q
 pub record Read (file : List ℕ) (h : FileHead) (bytes c s head : ℕ) : Type 0 where
   pub long : length file ≡ bytes
   pub answers : Model h ≡ readAnswer (parse file) c s
-  pub words : head ≡ 4
+  pub words : head ≡ 6
 
--- by its first 20 bytes or more
-pub read-enough : (file : List ℕ) (h : FileHead) (cs ss : List ℕ) → parse file ≡ model h cs ss → (front : ℕ) → 20 ≤ front → front ≤ length file
+-- by its head's bytes or more
+pub read-enough : (file : List ℕ) (h : FileHead) (cs ss : List ℕ) → parse file ≡ model h cs ss → (front : ℕ) → headSize (h .date) ≤ front → front ≤ length file
     → (bytes c s head : ℕ) → bytes ∷ c ∷ s ∷ head ∷ [] ≡ readLengths (headOf (take front file))
     → Read file h bytes c s head
 unfolding fileLengths
 read-enough file h cs ss p front b l bytes c s head e =
-    let is = head-front front file b l ∙ accepted file h cs ss p .head-is in
+    let w = accepted file h cs ss p .head-is in
+    let size : headSize (dateAt file) ≡ headSize (h .date) = rw (headed file h w .is) refl in
+    let is = head-front front file (omega arith) l ∙ w in
     let t = parse-table file h cs ss p in
-    let told : bytes ∷ c ∷ s ∷ head ∷ [] ≡ fileLengths (h .nmax) = e ∙ ap (λ (r : Reading). readLengths r) is in
-    let k : bytes ≡ 21 + 17 * tableSize (h .nmax) = cc in
+    let told : bytes ∷ c ∷ s ∷ head ∷ [] ≡ fileLengths (h .date) (h .nmax) = e ∙ ap (λ (r : Reading). readLengths r) is in
+    let k : bytes ≡ fileSize (h .date) (h .nmax) = cc in
     let u : c ≡ tableSize (h .nmax) = cc in
     let v : s ≡ tableSize (h .nmax) = cc in
     record {

@@ -10,6 +10,10 @@ use Rattle.refusal.specs.declared.Answer.the-variants.{Done}
 use Rattle.refusal.specs.declared.Answer.the-variants.{Refused as Stopped}
 use Rattle.storage.specs.Checks.{_andThen_}
 use Rattle.storage.specs.Triangle.{tableSize}
+use lib.IntN.{pos}
+use Rattle.coefficients.specs.Model.{dateOf}
+use Rattle.coefficients.specs.declared.Date.{Date}
+use Rattle.model_file.specs.Format.{headSize, fileSize}
 use Rattle.model_file.specs.declared.Reading.{Reading}
 use Rattle.model_file.specs.declared.Reading.the-variants.{Model, Refused}
 use Rattle.quadrature.specs.Gauss.{guessCount}
@@ -59,17 +63,17 @@ variancesLengths N = tableSize N ∷ tableSize N ∷ (N + 1) ∷ []
 unfoldable pub amplitudesLengths : ℕ → List ℕ
 amplitudesLengths N = tableSize N ∷ tableSize N ∷ (N + 1) ∷ (N + 1) ∷ []
 
--- the bytes of a file, c, s, and the four words of the head
-unfoldable pub fileLengths : ℕ → List ℕ
-fileLengths N = (21 + 17 * tableSize N) ∷ tableSize N ∷ tableSize N ∷ 4 ∷ []
+-- the bytes of a file, c, s, and the six words of the head
+unfoldable pub fileLengths : Date → ℕ → List ℕ
+fileLengths date N = fileSize date N ∷ tableSize N ∷ tableSize N ∷ 6 ∷ []
 
 abbrev pub readLengths : Reading → List ℕ
-readLengths (Model h) = fileLengths (h .nmax)
+readLengths (Model h) = fileLengths (h .date) (h .nmax)
 readLengths (Refused e) = []
 
 -- c, s, and the bytes
-unfoldable pub writeLengths : ℕ → List ℕ
-writeLengths N = tableSize N ∷ tableSize N ∷ (21 + 17 * tableSize N) ∷ []
+unfoldable pub writeLengths : (N dated : ℕ) → List ℕ
+writeLengths N dated = tableSize N ∷ tableSize N ∷ fileSize (dateOf dated (pos 0)) N ∷ []
 
 -- guesses, x, w
 unfoldable pub gaussLengths : ℕ → List ℕ
@@ -124,9 +128,15 @@ tables-told N (suc (suc (suc (suc zero)))) h e = cc
 tables-told N (suc (suc (suc (suc (suc k))))) h e = absurd (omega arith)
 
 -- the lists of a file
-pub file-told : {size : ℕ} (N : ℕ) → size ≡ tableSize N → (21 + 17 * size) ∷ size ∷ size ∷ 4 ∷ [] ≡ fileLengths N
+pub file-told : {size start : ℕ} (date : Date) (N : ℕ) → size ≡ tableSize N → start ≡ headSize date
+    → (start + 17 * size + 1) ∷ size ∷ size ∷ 6 ∷ [] ≡ fileLengths date N
 unfolding fileLengths
-file-told N e = cc
+file-told date N e z = rw (e, z) refl
+
+pub write-told : {size start : ℕ} {date : Date} (N dated : ℕ) → size ≡ tableSize N → date ≡ dateOf dated (pos 0) → start ≡ headSize date
+    → size ∷ size ∷ (start + 17 * size + 1) ∷ [] ≡ writeLengths N dated
+unfolding writeLengths
+write-told N dated e d z = rw (e, z, d) refl
 
 pub gauss-told : (n : ℕ) {half : ℕ} → half ≡ guessCount n → half ∷ n ∷ n ∷ [] ≡ gaussLengths n
 unfolding gaussLengths

@@ -20,7 +20,8 @@ use Rattle.functional.specs.declared.Functional.{Functional}
 use Rattle.functional.specs.Factor.{factorAnswer, factor-size}
 use Rattle.coefficients.specs.Checks.{variancesCheck, amplitudesCheck, setCheck}
 use Rattle.model_file.specs.declared.Reading.the-variants.{Refused as Unread}
-use Rattle.model_file.specs.Format.{headOf, parse, fault}
+use Rattle.coefficients.specs.declared.Date.{Date}
+use Rattle.model_file.specs.Format.{headSize, dateAt, headOf, parse, fault}
 use Rattle.model_file.specs.Answers.{writeAnswer, write-size, refused-by-head}
 use Rattle.model_file.specs.Truncation.{head-front}
 use Rattle.legendre.specs.Checks.{computeCheck, compute-tables}
@@ -89,8 +90,8 @@ module _ (N : ℕ) (bad : Refused Size ≡ degreeSize N) where
   unfolding amplitudesCheck
   amplitudes-limit f c s love out = refused-then Size _ (tables-limit c s)
 
-  pub write-limit : (c s out : ℕ) → Refused Size ≡ writeAnswer N c s out
-  write-limit c s out = write-size N c s out large
+  pub write-limit : (date : Date) (c s out : ℕ) → Refused Size ≡ writeAnswer date N c s out
+  write-limit date c s out = write-size date N c s out large
 
   pub factor-limit : (f : Functional) (love : List Float) (gm radius r : Float) → NoValue Size ≡ factorAnswer f love N gm radius r
   factor-limit f love gm radius r = factor-size f love N gm radius r large
@@ -145,7 +146,7 @@ pub cap-limit : (L weights lats work orders concentrations vectors : ℕ) → Re
 cap-limit L weights lats work orders concentrations vectors bad =
     caps.large-degree L weights lats work orders concentrations vectors (beyond 180 L bad)
 
--- `model_read`: by the head, told by the first 20 bytes or more
-pub read-limit : (file : List ℕ) (front : ℕ) (e : Refusal) → 20 ≤ front → front ≤ length file → headOf (take front file) ≡ Unread e
+-- `model_read`: by the head, told by its bytes or more
+pub read-limit : (file : List ℕ) (front : ℕ) (e : Refusal) → headSize (dateAt file) ≤ front → front ≤ length file → headOf (take front file) ≡ Unread e
     → parse file ≡ fault e
 read-limit file front e b l bad = refused-by-head file (headOf file) refl e (sym (head-front front file b l) ∙ bad)

@@ -106,7 +106,7 @@ pub fn degree_amplitudes(nmax: usize, lengths: &mut [usize]) -> Answer
     leaves::tell(&told, lengths)
 }
 
-// `model_read`: the bytes of a file, c, s, and the four words of its head. Only the head is looked at, the first 20 bytes.
+// `model_read`: the bytes of a file, c, s, and the six words of its head. Only the head is looked at, the first 20 bytes, 24 with a date.
 pub fn model_read(bytes: &[u8], lengths: &mut [usize]) -> Answer
     ensures { λ x. ⌜ x ≡ lengthsCheck (readSizes (headOf (now (bytes .entry)))) (readLengths (headOf (now (bytes .entry))))
         (length (now (lengths .entry))) ⌝ }
@@ -117,23 +117,26 @@ pub fn model_read(bytes: &[u8], lengths: &mut [usize]) -> Answer
         Reading::Refused(e) => Answer::Refused(e),
         Reading::Model(h) => {
             let nmax = h.nmax;
+            let date = h.date;
             let size = leaves::entries(nmax);
-            let told = [21 + 17 * size, size, size, 4];
+            let start = model_file::head_size(date);
+            let told = [start + 17 * size + 1, size, size, 6];
             leaves::tell(&told, lengths)
         }
     }
 }
 
-// `model_write`: c, s, and the bytes.
-pub fn model_write(nmax: usize, lengths: &mut [usize]) -> Answer
-    ensures { λ x. ⌜ x ≡ lengthsCheck (degreeSize nmax) (writeLengths nmax) (length (now (lengths .entry))) ⌝ }
-    ensures { λ x. ⌜ now (lengths .exit) ≡ lengthsAfter (degreeSize nmax) (writeLengths nmax) (now (lengths .entry)) ⌝ }
+// `model_write`: c, s, and the bytes. Whether there is a date counts, by `dated`, and not which.
+pub fn model_write(nmax: usize, dated: u32, lengths: &mut [usize]) -> Answer
+    ensures { λ x. ⌜ x ≡ lengthsCheck (degreeSize nmax) (writeLengths nmax dated) (length (now (lengths .entry))) ⌝ }
+    ensures { λ x. ⌜ now (lengths .exit) ≡ lengthsAfter (degreeSize nmax) (writeLengths nmax dated) (now (lengths .entry)) ⌝ }
 {
     if nmax > storage::MAX_DEGREE {
         return Answer::Refused(Refusal::Size);
     }
     let size = leaves::entries(nmax);
-    let told = [size, size, 21 + 17 * size];
+    let start = model_file::head_size(coefficients::date_of(dated, 0));
+    let told = [size, size, start + 17 * size + 1];
     leaves::tell(&told, lengths)
 }
 

@@ -16,7 +16,7 @@ use Rattle.model_file.specs.declared.FileHead.{FileHead}
 use Rattle.model_file.specs.declared.Reading.{Reading}
 use Rattle.model_file.specs.declared.Reading.the-variants.{Model}
 use Rattle.model_file.specs.LittleEndian.{Below}
-use Rattle.model_file.specs.Format.{Parsed, model, parse, render, refuseReading}
+use Rattle.model_file.specs.Format.{headSize, fileSize, Parsed, model, parse, render, refuseReading}
 use Rattle.model_file.specs.Answers.{readOutcome, readAnswer, cOf, sOf, writeAnswer, write-done}
 use Rattle.model_file.specs.RoundTrip.{Sound, parse-table, parse-length, parse-sound, length-render, parse-render, render-parse}
 use borrow.Author.Tests.{le-ltb}
@@ -27,10 +27,6 @@ stored-front vs d k e h =
     ap (λ (n : ℕ). take n (store 0 vs d)) (sym e)
     ∙ ap (take (length vs)) (store-front vs d (omega (arith, e)))
     ∙ take-append-seam vs (drop (length vs) d)
-
--- a file of N's size
-abbrev pub fileSize : ℕ → ℕ
-fileSize N = 21 + 17 * tableSize N
 
 -- what `read` hands back of the bytes b, in lists that held c₀ and s₀: its answer x, and the lists afterwards
 pub record ReadBack (b : List ℕ) (c₀ s₀ : List ℕ) (x : Reading) (c₁ s₁ : List ℕ) : Type 0 where
@@ -62,25 +58,25 @@ says p h c s c₀ s₀ {x} {c₁} {s₁} e lc ls rc rs ex ec es =
 
 -- what `write` hands back of a model, in a list that held `out`: its answer a, and the list afterwards
 pub record Wrote (h : FileHead) (c s out : List ℕ) (a : Answer) (out′ : List ℕ) : Type 0 where
-  pub answer : a ≡ writeAnswer (h .nmax) (length c) (length s) (length out)
+  pub answer : a ≡ writeAnswer (h .date) (h .nmax) (length c) (length s) (length out)
   pub of-out : out′ ≡ after a (store 0 (render h c s) out) out
 
 -- a model is written into a list with room: the file stands at its front
-pub writes : (h : FileHead) (c s out : List ℕ) → Sound h c s → fileSize (h .nmax) ≤ length out → {a : Answer} {out′ : List ℕ} → Wrote h c s out a out′
+pub writes : (h : FileHead) (c s out : List ℕ) → Sound h c s → fileSize (h .date) (h .nmax) ≤ length out → {a : Answer} {out′ : List ℕ} → Wrote h c s out a out′
     → (a ≡ Done) × (out′ ≡ store 0 (render h c s) out)
 writes h c s out o l w =
     let n = sym (size-is (h .nmax) (o .small)) in
-    let done = sym (write-done (h .nmax) (length c) (length s) (length out) (o .small) (tableSize (h .nmax)) n (o .c-long) (o .s-long) l) in
+    let done = sym (write-done (h .date) (h .nmax) (length c) (length s) (length out) (o .small) (tableSize (h .nmax)) n (o .c-long) (o .s-long) l) in
     (w .answer ∙ done, w .of-out ∙ ap (λ (x : Answer). after x (store 0 (render h c s) out) out) (w .answer ∙ done))
 
 -- `write`, then `read` of the file's bytes: it is written, and says the model
-pub write-read : (h : FileHead) (c s out : List ℕ) → Sound h c s → fileSize (h .nmax) ≤ length out → {a : Answer} {out′ : List ℕ} → Wrote h c s out a out′
+pub write-read : (h : FileHead) (c s out : List ℕ) → Sound h c s → fileSize (h .date) (h .nmax) ≤ length out → {a : Answer} {out′ : List ℕ} → Wrote h c s out a out′
     → {x : Reading} {c₁ s₁ : List ℕ} (c₀ s₀ : List ℕ) → tableSize (h .nmax) ≤ length c₀ → tableSize (h .nmax) ≤ length s₀
-    → ReadBack (take (fileSize (h .nmax)) out′) c₀ s₀ x c₁ s₁ → (a ≡ Done) × Says h c s x c₁ s₁
+    → ReadBack (take (fileSize (h .date) (h .nmax)) out′) c₀ s₀ x c₁ s₁ → (a ≡ Done) × Says h c s x c₁ s₁
 write-read h c s out o l {a} {out′} w c₀ s₀ rc rs r =
-    let k : ℕ = fileSize (h .nmax) in
+    let k : ℕ = fileSize (h .date) (h .nmax) in
     let e = writes h c s out o l w in
-    let long = length-render h c s (o .c-long ∙ sym (o .s-long)) ∙ ap (λ (n : ℕ). 21 + 17 * n) (o .c-long) in
+    let long = length-render h c s (o .c-long ∙ sym (o .s-long)) ∙ ap (λ (n : ℕ). headSize (h .date) + 17 * n + 1) (o .c-long) in
     let file : parse (take k out′) ≡ model h c s = ap (λ (b : List ℕ). parse (take k b)) (e .1) ∙ ap parse (stored-front (render h c s) out k long l) ∙ parse-render h c s o in
     (e .0, says (parse (take k out′)) h c s c₀ s₀ file (o .c-long) (o .s-long) rc rs (r .answer) (r .of-c) (r .of-s))
 

@@ -1,5 +1,6 @@
 pub mod LittleEndian
 pub mod Format
+pub mod Dates
 pub mod Head
 pub mod Body
 pub mod Answers

@@ -1,27 +1,28 @@
 // The model file: a head, the pairs of coefficients in table order, and an end, each record one byte of kind and then its body.
 // Numbers go by their bit patterns, so that all bits survive, a NaN's too.
+mod words;
+
+use coefficients::Date;
 use coefficients::TideSystem;
 use refusal::Answer;
 use refusal::Refusal;
 ghost use mathlib.Core.Path.{_≡_};
-ghost use Prim.Native.Nat.{_+_, _*_, _%_, _≤_, _<_};
+ghost use Prim.Native.Nat.{_+_, _*_, _≤_, _<_};
 ghost use lib.ListN.{length};
 ghost use Rattle.refusal.specs.Numbers.{after};
 ghost use Rattle.storage.specs.Store.{store};
 ghost use Rattle.storage.specs.Triangle.{tableSize};
 ghost use Rattle.coefficients.specs.Model.{tideNumber, tideOf};
-ghost use Rattle.model_file.specs.LittleEndian.{bytesOf, numberAt, wordsAt};
-ghost use Rattle.model_file.specs.Format.{headOf, bodyOf, parse, headBytes, pairBytes, recordBytes, render};
+ghost use Rattle.model_file.specs.LittleEndian.{wordsAt};
+ghost use Rattle.model_file.specs.Format.{isHead, headKind, headSize, dateBytes, dateAt, headOf, bodyOf, parse, headBytes, pairBytes, recordBytes, render};
 ghost use Rattle.model_file.specs.Answers.{readOutcome, readingNumber, verdictOf, readAnswer, cOf, sOf, writeAnswer};
-
-// The bytes of a head's record, kind and body; the pairs stand behind it.
-const HEAD_SIZE: usize = 20;
 
 // A file's head. gm and radius are the bit patterns of doubles.
 pub struct FileHead {
     pub gm: u64,
     pub radius: u64,
     pub tide: TideSystem,
+    pub date: Date,
     pub nmax: usize,
 }
 
@@ -41,37 +42,6 @@ pub fn reading_number(r: Reading) -> u32
     }
 }
 
-fn wide(b: u8) -> u64
-    ensures { λ r. ⌜ r ≡ b ⌝ }
-{
-    b as u64
-}
-
-// The number of four bytes, the lowest first.
-fn number_of_four(a: u8, b: u8, c: u8, d: u8) -> u64
-    ensures { λ r. ⌜ r ≡ a + 256 * (b + 256 * (c + 256 * d)) ⌝ }
-    ensures { λ r. ⌜ r < 4294967296 ⌝ }
-{
-    wide(a) + wide(b) * 256 + wide(c) * 65536 + wide(d) * 16777216
-}
-
-// The number whose eight bytes stand in s from `at` on.
-fn read_word(s: &[u8], at: usize) -> u64
-    requires { ⌜ at + 8 ≤ length (now s) ⌝ }
-    ensures { λ r. ⌜ r ≡ numberAt 8 (now (s .entry)) at ⌝ }
-{
-    number_of_four(s[at], s[at + 1], s[at + 2], s[at + 3])
-        + number_of_four(s[at + 4], s[at + 5], s[at + 6], s[at + 7]) * 4294967296
-}
-
-// The number whose two bytes stand in s from `at` on.
-fn read_degree(s: &[u8], at: usize) -> usize
-    requires { ⌜ at + 2 ≤ length (now s) ⌝ }
-    ensures { λ r. ⌜ r ≡ numberAt 2 (now (s .entry)) at ⌝ }
-{
-    number_of_four(s[at], s[at + 1], 0, 0) as usize
-}
-
 fn tide_of(b: u8) -> TideSystem
     ensures { λ r. ⌜ r ≡ tideOf b ⌝ }
 {
@@ -84,6 +54,57 @@ fn tide_byte(t: TideSystem) -> u8
     coefficients::tide_number(t) as u8
 }
 
+// Whether a record of this kind is a head: 1, or 4 with a date.
+fn is_head(kind: u8) -> bool
+    ensures { λ r. ⌜ r ≡ isHead kind ⌝ }
+{
+    if kind == 1 {
+        return true;
+    }
+    kind == 4
+}
+
+fn head_kind(date: Date) -> u8
+    ensures { λ r. ⌜ r ≡ headKind date ⌝ }
+{
+    match date {
+        Date::None => 1,
+        Date::Days(_) => 4,
+    }
+}
+
+// The bytes of a head's record, kind and body; the pairs stand behind it.
+pub fn head_size(date: Date) -> usize
+    ensures { λ r. ⌜ r ≡ headSize date ⌝ }
+{
+    match date {
+        Date::None => 20,
+        Date::Days(_) => 24,
+    }
+}
+
+// The same, by the kind of the record that a file starts with.
+fn size_of_head(bytes: &[u8]) -> usize
+    requires { ⌜ 0 < length (now bytes) ⌝ }
+    ensures { λ r. ⌜ r ≡ headSize (dateAt (now (bytes .entry))) ⌝ }
+{
+    if bytes[0] == 4 {
+        return 24;
+    }
+    20
+}
+
+// The date of a file's head.
+fn read_date(bytes: &[u8]) -> Date
+    requires { ⌜ 0 < length (now bytes) ⌝ ∗ ⌜ headSize (dateAt (now bytes)) ≤ length (now bytes) ⌝ }
+    ensures { λ r. ⌜ r ≡ dateAt (now (bytes .entry)) ⌝ }
+{
+    if bytes[0] == 4 {
+        return Date::Days(days::days_of(words::read_pattern(bytes, 20)));
+    }
+    Date::None
+}
+
 // The head of a file, or why the file is refused by its head. What stands behind the head is not looked at.
 pub fn head(bytes: &[u8]) -> Reading
     ensures { λ r. ⌜ r ≡ headOf (now (bytes .entry)) ⌝ }
@@ -92,24 +113,25 @@ pub fn head(bytes: &[u8]) -> Reading
         return Reading::Refused(Refusal::Short);
     }
     let kind = bytes[0];
-    if kind != 1 {
+    if !is_head(kind) {
         return Reading::Refused(Refusal::Kind);
     }
-    if bytes.len() < 20 {
+    if bytes.len() < size_of_head(bytes) {
         return Reading::Refused(Refusal::Short);
     }
     let tide = bytes[17];
     if tide > 3 {
         return Reading::Refused(Refusal::Tide);
     }
-    let nmax = read_degree(bytes, 18);
+    let nmax = words::read_degree(bytes, 18);
     if nmax > storage::MAX_DEGREE {
         return Reading::Refused(Refusal::Size);
     }
     Reading::Model(FileHead {
-        gm: read_word(bytes, 1),
-        radius: read_word(bytes, 9),
+        gm: words::read_word(bytes, 1),
+        radius: words::read_word(bytes, 9),
         tide: tide_of(tide),
+        date: read_date(bytes),
         nmax: nmax,
     })
 }
@@ -156,8 +178,8 @@ fn read_pairs(bytes: &[u8], count: usize, start: usize, c: &mut [u64], s: &mut [
     let mut k = 0;
     let mut at = start + 1;
     while k < count {
-        c[k] = read_word(bytes, at);
-        s[k] = read_word(bytes, at + 8);
+        c[k] = words::read_word(bytes, at);
+        s[k] = words::read_word(bytes, at + 8);
         at += 17;
         k += 1;
     }
@@ -171,7 +193,8 @@ pub fn verdict(bytes: &[u8]) -> Answer
         Reading::Refused(e) => Answer::Refused(e),
         Reading::Model(h) => {
             let nmax = h.nmax;
-            check_body(bytes, storage::table_size(nmax), HEAD_SIZE)
+            let date = h.date;
+            check_body(bytes, storage::table_size(nmax), head_size(date))
         }
     }
 }
@@ -186,8 +209,10 @@ pub fn read(bytes: &[u8], c: &mut [u64], s: &mut [u64]) -> Reading
         Reading::Refused(e) => Reading::Refused(e),
         Reading::Model(h) => {
             let nmax = h.nmax;
+            let date = h.date;
             let count = storage::table_size(nmax);
-            match check_body(bytes, count, HEAD_SIZE) {
+            let start = head_size(date);
+            match check_body(bytes, count, start) {
                 Answer::Refused(e) => Reading::Refused(e),
                 Answer::Done => {
                     if c.len() < count {
@@ -196,42 +221,12 @@ pub fn read(bytes: &[u8], c: &mut [u64], s: &mut [u64]) -> Reading
                     if s.len() < count {
                         return Reading::Refused(Refusal::Space);
                     }
-                    read_pairs(bytes, count, HEAD_SIZE, c, s);
+                    read_pairs(bytes, count, start, c, s);
                     Reading::Model(h)
                 }
             }
         }
     }
-}
-
-fn low_byte(x: u64) -> u8
-    ensures { λ r. ⌜ r ≡ x % 256 ⌝ }
-{
-    (x % 256) as u8
-}
-
-// Stores the two bytes of x from `at` on.
-fn write_degree(out: &mut [u8], at: usize, x: u64)
-    requires { ⌜ at + 2 ≤ length (now out) ⌝ }
-    ensures { λ _. ⌜ now (out .exit) ≡ store at (bytesOf 2 x) (now (out .entry)) ⌝ }
-{
-    out[at] = low_byte(x);
-    out[at + 1] = low_byte(x / 256);
-}
-
-// Stores the eight bytes of x from `at` on.
-fn write_word(out: &mut [u8], at: usize, x: u64)
-    requires { ⌜ at + 8 ≤ length (now out) ⌝ }
-    ensures { λ _. ⌜ now (out .exit) ≡ store at (bytesOf 8 x) (now (out .entry)) ⌝ }
-{
-    out[at] = low_byte(x);
-    out[at + 1] = low_byte(x / 256);
-    out[at + 2] = low_byte(x / 65536);
-    out[at + 3] = low_byte(x / 16777216);
-    out[at + 4] = low_byte(x / 4294967296);
-    out[at + 5] = low_byte(x / 1099511627776);
-    out[at + 6] = low_byte(x / 281474976710656);
-    out[at + 7] = low_byte(x / 72057594037927936);
 }
 
 // Stores a pair's record from `at` on.
@@ -240,24 +235,37 @@ fn write_pair(out: &mut [u8], at: usize, c: u64, s: u64)
     ensures { λ _. ⌜ now (out .exit) ≡ store at (pairBytes c s) (now (out .entry)) ⌝ }
 {
     out[at] = 2;
-    write_word(out, at + 1, c);
-    write_word(out, at + 9, s);
+    words::write_word(out, at + 1, c);
+    words::write_word(out, at + 9, s);
+}
+
+// Stores a date's bytes behind the rest of the head.
+fn write_date(out: &mut [u8], date: Date)
+    requires { ⌜ headSize date ≤ length (now out) ⌝ }
+    ensures { λ _. ⌜ now (out .exit) ≡ store 20 (dateBytes date) (now (out .entry)) ⌝ }
+{
+    match date {
+        Date::None => {}
+        Date::Days(days) => words::write_pattern(out, 20, days::days_pattern(days) as u64),
+    }
 }
 
 // Stores the head's record at the front.
 fn write_head(out: &mut [u8], head: FileHead)
-    requires { ⌜ (20 ≤ length (now out)) × (head .nmax ≤ 2700) ⌝ }
+    requires { ⌜ (headSize (head .date) ≤ length (now out)) × (head .nmax ≤ 2700) ⌝ }
     ensures { λ _. ⌜ now (out .exit) ≡ store 0 (headBytes head) (now (out .entry)) ⌝ }
 {
     let gm = head.gm;
     let radius = head.radius;
     let tide = head.tide;
+    let date = head.date;
     let nmax = head.nmax;
-    out[0] = 1;
-    write_word(out, 1, gm);
-    write_word(out, 9, radius);
+    out[0] = head_kind(date);
+    words::write_word(out, 1, gm);
+    words::write_word(out, 9, radius);
     out[17] = tide_byte(tide);
-    write_degree(out, 18, nmax as u64);
+    words::write_degree(out, 18, nmax as u64);
+    write_date(out, date);
 }
 
 // Stores the pairs and the end from `start` on, behind the head.
@@ -275,12 +283,13 @@ fn write_body(out: &mut [u8], c: &[u64], s: &[u64], start: usize)
     out[at] = 3;
 }
 
-// Writes a model file at the front of out: 21 + 17 T bytes. A refusal writes nothing.
+// Writes a model file at the front of out: 21 + 17 T bytes, 25 + 17 T with a date. A refusal writes nothing.
 pub fn write(head: FileHead, c: &[u64], s: &[u64], out: &mut [u8]) -> Answer
-    ensures { λ r. ⌜ r ≡ writeAnswer (head .nmax) (length (now (c .entry))) (length (now (s .entry))) (length (now (out .entry))) ⌝ }
+    ensures { λ r. ⌜ r ≡ writeAnswer (head .date) (head .nmax) (length (now (c .entry))) (length (now (s .entry))) (length (now (out .entry))) ⌝ }
     ensures { λ r. ⌜ now (out .exit) ≡ after r (store 0 (render head (now (c .entry)) (now (s .entry))) (now (out .entry))) (now (out .entry)) ⌝ }
 {
     let nmax = head.nmax;
+    let date = head.date;
     if storage::MAX_DEGREE < nmax {
         return Answer::Refused(Refusal::Size);
     }
@@ -291,10 +300,11 @@ pub fn write(head: FileHead, c: &[u64], s: &[u64], out: &mut [u8]) -> Answer
     if s.len() != count {
         return Answer::Refused(Refusal::Length);
     }
-    if out.len() < 21 + 17 * count {
+    let start = head_size(date);
+    if out.len() < start + 17 * count + 1 {
         return Answer::Refused(Refusal::Space);
     }
     write_head(out, head);
-    write_body(out, c, s, HEAD_SIZE);
+    write_body(out, c, s, start);
     Answer::Done
 }

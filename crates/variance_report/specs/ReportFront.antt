@@ -1,4 +1,4 @@
--- The first 65,536 bytes of an input decide what is printed: a file up to degree 86 has at most 65,097, and of the bytes behind a first one
+-- The first 65,536 bytes of an input decide what is printed: a file up to degree 86 has at most 65,101, and of the bytes behind a first one
 -- too many none is looked at. Assumes nothing.
 use mathlib.Core.Path.{_≡_, refl, sym, ap, _∙_}
 use mathlib.Core.Logic.{_⊎_, inl, inr, ⊎-elim}
@@ -16,7 +16,8 @@ use Rattle.storage.specs.Triangle.{rowStart, tableSize, row-start-monotone}
 use Rattle.model_file.specs.declared.FileHead.{FileHead}
 use Rattle.model_file.specs.declared.Reading.{Reading}
 use Rattle.model_file.specs.declared.Reading.the-variants.{Model, Refused}
-use Rattle.model_file.specs.Format.{headOf, bodyOf, parse}
+use Rattle.model_file.specs.Format.{headSize, dateAt, headOf, bodyOf, parse}
+use Rattle.model_file.specs.Dates.{size-most}
 use Rattle.model_file.specs.Body.{body-long}
 use Rattle.model_file.specs.Answers.{refused-by-body}
 use Rattle.model_file.specs.Truncation.{lt-or-ge, head-front, body-front}
@@ -28,15 +29,17 @@ unfolding rowStart
 pairs-most N h = row-start-monotone (N + 1) 87 (omega arith)
 
 module _ (b : List ℕ) (long : 65536 < length b) where
-  same-body : (h : FileHead) → h .nmax ≤ 86 → headOf b ≡ Model h → (a : Answer) → a ≡ bodyOf b (tableSize (h .nmax)) 20
+  same-body : (h : FileHead) → h .nmax ≤ 86 → headOf b ≡ Model h → (a : Answer) → a ≡ bodyOf b (tableSize (h .nmax)) (headSize (h .date))
       → parse (take 65536 b) ≡ parse b
-  same-body h small i Done e = let l = body-long b (tableSize (h .nmax)) 20 (sym e) in absurd (omega (arith, pairs-most (h .nmax) small))
+  same-body h small i Done e =
+      let l = body-long b (tableSize (h .nmax)) (headSize (h .date)) (sym e) in
+      absurd (omega (arith, size-most (h .date), pairs-most (h .nmax) small))
   same-body h small i (Stopped x) e =
       let n = sym (size-is (h .nmax) (omega arith)) in
-      let f = sym (head-front 65536 b (omega arith) (omega arith) ∙ i) in
-      let g = body-front 65536 b (tableSize (h .nmax)) 20 (omega (arith, pairs-most (h .nmax) small)) (omega arith) in
-      refused-by-body (take 65536 b) (Model h) f h refl (tableSize (h .nmax)) n (Stopped x) (e ∙ sym g) x refl
-      ∙ sym (refused-by-body b (Model h) (sym i) h refl (tableSize (h .nmax)) n (Stopped x) e x refl)
+      let f = sym (head-front 65536 b (omega (arith, size-most (dateAt b))) (omega arith) ∙ i) in
+      let g = body-front 65536 b (tableSize (h .nmax)) (headSize (h .date)) (omega (arith, size-most (h .date), pairs-most (h .nmax) small)) (omega arith) in
+      refused-by-body (take 65536 b) (Model h) f h refl (tableSize (h .nmax)) n _ refl (Stopped x) (e ∙ sym g) x refl
+      ∙ sym (refused-by-body b (Model h) (sym i) h refl (tableSize (h .nmax)) n _ refl (Stopped x) e x refl)
 
   same-model : (h : FileHead) → headOf b ≡ Model h → (86 < h .nmax) ⊎ (h .nmax ≤ 86) → headText (Model h) (take 65536 b) ≡ headText (Model h) b
   same-model h i (inl big) = rw (lt-ltb 86 (h .nmax) big) refl
@@ -48,7 +51,7 @@ module _ (b : List ℕ) (long : 65536 < length b) where
 
   longer : reportOf (take 65536 b) ≡ reportOf b
   unfolding reportOf
-  longer = ap (λ (r : Reading). headText r (take 65536 b)) (head-front 65536 b (omega arith) (omega arith)) ∙ same-head (headOf b) refl
+  longer = ap (λ (r : Reading). headText r (take 65536 b)) (head-front 65536 b (omega (arith, size-most (dateAt b))) (omega arith)) ∙ same-head (headOf b) refl
 
 -- an input prints what its first 65,536 bytes print
 pub report-front : (b : List ℕ) → reportOf (take 65536 b) ≡ reportOf b

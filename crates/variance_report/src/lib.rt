@@ -1,4 +1,5 @@
 // What the program `variances` prints for the bytes that it has read: the degree variances of a model file of at most degree 86.
+use coefficients::Date;
 use coefficients::Head;
 use coefficients::TideSystem;
 use model_file::Reading;
@@ -101,6 +102,7 @@ fn write_model(out: &mut [u8], nmax: usize, c: &[u64], s: &[u64]) -> usize
         gm: 1.0,
         radius: 1.0,
         tide_system: TideSystem::Unknown,
+        date: Date::None,
         nmax,
     };
     head.degree_variances(&cs[..t], &ss[..t], &mut variances);

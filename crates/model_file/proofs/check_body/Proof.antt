@@ -1,3 +1,4 @@
+-- `check_body` meets its contract: each turn takes one record, and what is left says what the whole says. Assumes nothing.
 use Rattle.model_file.specs.Format.{bodyOf}
 use Rattle.model_file.specs.Body.{body-absent, pair-kind, pair-short, pair-next, end-kind, end-after, body-done}
 use native.Mathlib.Omega.{arith}

@@ -1,3 +1,4 @@
+-- `read_pairs` meets its contract: so many numbers from the front of both lists are those of the records. Assumes nothing.
 use Prim.Native.Nat.{_*_}
 use lib.ListN.{length-set}
 use Rattle.model_file.specs.LittleEndian.{wordsAt}

@@ -1,3 +1,4 @@
+-- `write_body` meets its contract: each turn stores one record behind the ones before. Assumes nothing.
 use lib.ListN.{length-set}
 use Prim.Native.Nat.{_*_}
 use lib.ListN.{drop}

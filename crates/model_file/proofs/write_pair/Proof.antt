@@ -1,3 +1,4 @@
+-- `write_pair` meets its contract: the kind, then two numbers. Assumes nothing.
 use Rattle.model_file.proofs.Stores.{pair-parts}
 use lib.ListN.{length-set}
 use borrow.Author.Needs.{needs}

@@ -1,9 +1,10 @@
+-- `words::write_degree` meets its contract: two bytes, one behind the other. Assumes nothing.
 use lib.ListN.{length-set}
 use Rattle.model_file.proofs.Stores.{store-two}
 use borrow.Author.Needs.{needs}
 use native.Mathlib.Omega.{arith}
-use Rattle.model_file.proofs.write_degree.Statement.{statement}
-use Rattle.model_file.proofs.write_degree.Tie as tie
+use Rattle.model_file.proofs.words.write_degree.Statement.{statement}
+use Rattle.model_file.proofs.words.write_degree.Tie as tie
 
 slice-write-out-2 : tie.Need-slice-write-out-2
 slice-write-out-2 c = simp length-set (omega arith)

@@ -1,8 +1,9 @@
+-- `words::read_word` meets its contract: eight bytes are two numbers of four. Assumes nothing.
 use Rattle.model_file.proofs.Stores.{word-of-eight}
 use borrow.Author.Needs.{needs}
 use native.Mathlib.Omega.{arith}
-use Rattle.model_file.proofs.read_word.Statement.{statement}
-use Rattle.model_file.proofs.read_word.Tie as tie
+use Rattle.model_file.proofs.words.read_word.Statement.{statement}
+use Rattle.model_file.proofs.words.read_word.Tie as tie
 
 returns : tie.Need-returns
 returns c =

@@ -1,8 +1,9 @@
+-- `words::read_degree` meets its contract: two bytes are a number below 65,536. Assumes nothing.
 use Rattle.model_file.proofs.Stores.{degree-of-two}
 use borrow.Author.Needs.{needs}
 use mathlib.Core.Path.{_∙_}
-use Rattle.model_file.proofs.read_degree.Statement.{statement}
-use Rattle.model_file.proofs.read_degree.Tie as tie
+use Rattle.model_file.proofs.words.read_degree.Statement.{statement}
+use Rattle.model_file.proofs.words.read_degree.Tie as tie
 
 returns : tie.Need-returns
 returns c = let a = c .before .before .before .before .args in c .number-of-four .ensures .0 ∙ degree-of-two (a .s .now) (a .at)
