@@ -1,4 +1,5 @@
 // What the programs that replay refusals share: the columns of a case, how much of a list a call has changed, and the line of a call.
+use coefficients::Date;
 use coefficients::Model;
 use functional::Functional;
 use refusal::Answer;
@@ -134,17 +135,65 @@ pub fn of_number(a: Number) -> u64 {
     }
 }
 
-// gm, radius, tide and N of a made model, zeros for a refusal.
-pub fn head_words(a: Model) -> [u64; 4] {
+// The dates of the cases by their numbers.
+pub fn date_of(number: u64) -> Date {
+    match number {
+        0 => Date::None,
+        1 => Date::Days(0),
+        2 => Date::Days(1),
+        3 => Date::Days(-1),
+        4 => Date::Days(8840),
+        5 => Date::Days(2147483647),
+        6 => Date::Days(-2147483648),
+        7 => Date::Days(16909060),
+        _ => Date::Days(-1985229329),
+    }
+}
+
+// The number of a day count among the cases; any other count is the ninth.
+fn days_number(days: i32) -> u64 {
+    if days == 0 {
+        1
+    } else if days == 1 {
+        2
+    } else if days == -1 {
+        3
+    } else if days == 8840 {
+        4
+    } else if days == 2147483647 {
+        5
+    } else if days == -2147483648 {
+        6
+    } else if days == 16909060 {
+        7
+    } else if days == -1985229329 {
+        8
+    } else {
+        9
+    }
+}
+
+// The number of a date: 0 for none, else that of its day count.
+pub fn date_number(date: Date) -> u64 {
+    match date {
+        Date::None => 0,
+        Date::Days(days) => days_number(days),
+    }
+}
+
+// gm, radius, tide, N and date of a made model, zeros for a refusal.
+pub fn head_words(a: Model) -> [u64; 5] {
     match a {
-        Model::Refused(_) => [0; 4],
+        Model::Refused(_) => [0; 5],
         Model::Made(h) => {
             let tide = h.tide_system;
+            let date = h.date;
             [
                 number::bits_of_number(h.gm),
                 number::bits_of_number(h.radius),
                 coefficients::tide_number(tide) as u64,
                 h.nmax as u64,
+                date_number(date),
             ]
         }
     }

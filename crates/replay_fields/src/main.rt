@@ -3,6 +3,7 @@
 mod averages;
 mod grids;
 
+use coefficients::Date;
 use coefficients::Head;
 use coefficients::TideSystem;
 use functional::Functional;
@@ -18,6 +19,7 @@ fn head_of(nmax: usize) -> Head {
         gm: 398600441500000.0,
         radius: 6378136.3,
         tide_system: TideSystem::Unknown,
+        date: Date::None,
         nmax,
     }
 }

@@ -45,10 +45,11 @@ pub const FILE_0: [u8; 40] = [
     165,
 ];
 
-// its gm, radius, tide and N
-pub const HEAD_0: [u64; 4] = [
+// its gm, radius, tide, N and date
+pub const HEAD_0: [u64; 5] = [
     0x42f6_a866_5b91_1600,
     0x4158_54a6_1333_3333,
+    0x0000_0000_0000_0000,
     0x0000_0000_0000_0000,
     0x0000_0000_0000_0000,
 ];
@@ -145,12 +146,13 @@ pub const FILE_1: [u8; 74] = [
     165,
 ];
 
-// its gm, radius, tide and N
-pub const HEAD_1: [u64; 4] = [
+// its gm, radius, tide, N and date
+pub const HEAD_1: [u64; 5] = [
     0x42f6_a866_5b91_1600,
     0x4158_54a6_1333_3333,
     0x0000_0000_0000_0001,
     0x0000_0000_0000_0001,
+    0x0000_0000_0000_0000,
 ];
 
 // its c, and two of the list behind them
@@ -300,12 +302,13 @@ pub const FILE_2: [u8; 125] = [
     165,
 ];
 
-// its gm, radius, tide and N
-pub const HEAD_2: [u64; 4] = [
+// its gm, radius, tide, N and date
+pub const HEAD_2: [u64; 5] = [
     0x4158_54a6_1333_3333,
     0x42f6_a866_5b91_1600,
     0x0000_0000_0000_0002,
     0x0000_0000_0000_0002,
+    0x0000_0000_0000_0000,
 ];
 
 // its c, and two of the list behind them
@@ -529,12 +532,13 @@ pub const FILE_3: [u8; 193] = [
     165,
 ];
 
-// its gm, radius, tide and N
-pub const HEAD_3: [u64; 4] = [
+// its gm, radius, tide, N and date
+pub const HEAD_3: [u64; 5] = [
     0x42f6_a866_5b91_1600,
     0x4158_54a6_1333_3333,
     0x0000_0000_0000_0003,
     0x0000_0000_0000_0003,
+    0x0000_0000_0000_0000,
 ];
 
 // its c, and two of the list behind them
@@ -613,11 +617,12 @@ pub const FILE_4: [u8; 40] = [
     165,
 ];
 
-// its gm, radius, tide and N
-pub const HEAD_4: [u64; 4] = [
+// its gm, radius, tide, N and date
+pub const HEAD_4: [u64; 5] = [
     0x7ff8_dead_beef_0001,
     0xfff4_0123_4567_89ab,
     0x0000_0000_0000_0003,
+    0x0000_0000_0000_0000,
     0x0000_0000_0000_0000,
 ];
 
@@ -713,12 +718,13 @@ pub const FILE_5: [u8; 74] = [
     165,
 ];
 
-// its gm, radius, tide and N
-pub const HEAD_5: [u64; 4] = [
+// its gm, radius, tide, N and date
+pub const HEAD_5: [u64; 5] = [
     0x8000_0000_0000_0000,
     0x7ff0_0000_0000_0001,
     0x0000_0000_0000_0002,
     0x0000_0000_0000_0001,
+    0x0000_0000_0000_0000,
 ];
 
 // its c, and two of the list behind them
@@ -783,11 +789,12 @@ pub const FILE_6: [u8; 40] = [
     165,
 ];
 
-// its gm, radius, tide and N
-pub const HEAD_6: [u64; 4] = [
+// its gm, radius, tide, N and date
+pub const HEAD_6: [u64; 5] = [
     0xfffc_0bad_cafe_7e57,
     0x8000_0000_0000_0000,
     0x0000_0000_0000_0001,
+    0x0000_0000_0000_0000,
     0x0000_0000_0000_0000,
 ];
 
@@ -934,12 +941,13 @@ pub const FILE_7: [u8; 125] = [
     165,
 ];
 
-// its gm, radius, tide and N
-pub const HEAD_7: [u64; 4] = [
+// its gm, radius, tide, N and date
+pub const HEAD_7: [u64; 5] = [
     0x0123_4567_89ab_cdef,
     0xfedc_ba98_7654_3210,
     0x0000_0000_0000_0000,
     0x0000_0000_0000_0002,
+    0x0000_0000_0000_0000,
 ];
 
 // its c, and two of the list behind them
@@ -962,6 +970,707 @@ pub const S_7: [u64; 8] = [
     0x0000_0000_0000_000e,
     0x0000_0000_0000_000f,
     0x0000_0000_0000_0010,
+    0x5a5a_1234_5a5a_9876,
+    0x5a5a_1234_5a5a_9876,
+];
+
+// file 8: its bytes, and two of the list behind them
+pub const FILE_8: [u8; 44] = [
+    4,
+    0,
+    22,
+    145,
+    91,
+    102,
+    168,
+    246,
+    66,
+    51,
+    51,
+    51,
+    19,
+    166,
+    84,
+    88,
+    65,
+    0,
+    0,
+    0,
+    0,
+    0,
+    0,
+    0,
+    2,
+    1,
+    0,
+    0,
+    0,
+    0,
+    0,
+    240,
+    127,
+    87,
+    126,
+    254,
+    202,
+    173,
+    11,
+    252,
+    255,
+    3,
+    165,
+    165,
+];
+
+// its gm, radius, tide, N and date
+pub const HEAD_8: [u64; 5] = [
+    0x42f6_a866_5b91_1600,
+    0x4158_54a6_1333_3333,
+    0x0000_0000_0000_0000,
+    0x0000_0000_0000_0000,
+    0x0000_0000_0000_0001,
+];
+
+// its c, and two of the list behind them
+pub const C_8: [u64; 3] = [
+    0x7ff0_0000_0000_0001,
+    0x5a5a_1234_5a5a_9876,
+    0x5a5a_1234_5a5a_9876,
+];
+
+// its s, and two of the list behind them
+pub const S_8: [u64; 3] = [
+    0xfffc_0bad_cafe_7e57,
+    0x5a5a_1234_5a5a_9876,
+    0x5a5a_1234_5a5a_9876,
+];
+
+// file 9: its bytes, and two of the list behind them
+pub const FILE_9: [u8; 44] = [
+    4,
+    0,
+    22,
+    145,
+    91,
+    102,
+    168,
+    246,
+    66,
+    51,
+    51,
+    51,
+    19,
+    166,
+    84,
+    88,
+    65,
+    1,
+    0,
+    0,
+    1,
+    0,
+    0,
+    0,
+    2,
+    1,
+    0,
+    0,
+    0,
+    0,
+    0,
+    240,
+    127,
+    87,
+    126,
+    254,
+    202,
+    173,
+    11,
+    252,
+    255,
+    3,
+    165,
+    165,
+];
+
+// its gm, radius, tide, N and date
+pub const HEAD_9: [u64; 5] = [
+    0x42f6_a866_5b91_1600,
+    0x4158_54a6_1333_3333,
+    0x0000_0000_0000_0001,
+    0x0000_0000_0000_0000,
+    0x0000_0000_0000_0002,
+];
+
+// its c, and two of the list behind them
+pub const C_9: [u64; 3] = [
+    0x7ff0_0000_0000_0001,
+    0x5a5a_1234_5a5a_9876,
+    0x5a5a_1234_5a5a_9876,
+];
+
+// its s, and two of the list behind them
+pub const S_9: [u64; 3] = [
+    0xfffc_0bad_cafe_7e57,
+    0x5a5a_1234_5a5a_9876,
+    0x5a5a_1234_5a5a_9876,
+];
+
+// file 10: its bytes, and two of the list behind them
+pub const FILE_10: [u8; 44] = [
+    4,
+    0,
+    22,
+    145,
+    91,
+    102,
+    168,
+    246,
+    66,
+    51,
+    51,
+    51,
+    19,
+    166,
+    84,
+    88,
+    65,
+    2,
+    0,
+    0,
+    255,
+    255,
+    255,
+    255,
+    2,
+    1,
+    0,
+    0,
+    0,
+    0,
+    0,
+    240,
+    127,
+    87,
+    126,
+    254,
+    202,
+    173,
+    11,
+    252,
+    255,
+    3,
+    165,
+    165,
+];
+
+// its gm, radius, tide, N and date
+pub const HEAD_10: [u64; 5] = [
+    0x42f6_a866_5b91_1600,
+    0x4158_54a6_1333_3333,
+    0x0000_0000_0000_0002,
+    0x0000_0000_0000_0000,
+    0x0000_0000_0000_0003,
+];
+
+// its c, and two of the list behind them
+pub const C_10: [u64; 3] = [
+    0x7ff0_0000_0000_0001,
+    0x5a5a_1234_5a5a_9876,
+    0x5a5a_1234_5a5a_9876,
+];
+
+// its s, and two of the list behind them
+pub const S_10: [u64; 3] = [
+    0xfffc_0bad_cafe_7e57,
+    0x5a5a_1234_5a5a_9876,
+    0x5a5a_1234_5a5a_9876,
+];
+
+// file 11: its bytes, and two of the list behind them
+pub const FILE_11: [u8; 44] = [
+    4,
+    0,
+    22,
+    145,
+    91,
+    102,
+    168,
+    246,
+    66,
+    51,
+    51,
+    51,
+    19,
+    166,
+    84,
+    88,
+    65,
+    3,
+    0,
+    0,
+    136,
+    34,
+    0,
+    0,
+    2,
+    1,
+    0,
+    0,
+    0,
+    0,
+    0,
+    240,
+    127,
+    87,
+    126,
+    254,
+    202,
+    173,
+    11,
+    252,
+    255,
+    3,
+    165,
+    165,
+];
+
+// its gm, radius, tide, N and date
+pub const HEAD_11: [u64; 5] = [
+    0x42f6_a866_5b91_1600,
+    0x4158_54a6_1333_3333,
+    0x0000_0000_0000_0003,
+    0x0000_0000_0000_0000,
+    0x0000_0000_0000_0004,
+];
+
+// its c, and two of the list behind them
+pub const C_11: [u64; 3] = [
+    0x7ff0_0000_0000_0001,
+    0x5a5a_1234_5a5a_9876,
+    0x5a5a_1234_5a5a_9876,
+];
+
+// its s, and two of the list behind them
+pub const S_11: [u64; 3] = [
+    0xfffc_0bad_cafe_7e57,
+    0x5a5a_1234_5a5a_9876,
+    0x5a5a_1234_5a5a_9876,
+];
+
+// file 12: its bytes, and two of the list behind them
+pub const FILE_12: [u8; 44] = [
+    4,
+    0,
+    22,
+    145,
+    91,
+    102,
+    168,
+    246,
+    66,
+    51,
+    51,
+    51,
+    19,
+    166,
+    84,
+    88,
+    65,
+    0,
+    0,
+    0,
+    255,
+    255,
+    255,
+    127,
+    2,
+    1,
+    0,
+    0,
+    0,
+    0,
+    0,
+    240,
+    127,
+    87,
+    126,
+    254,
+    202,
+    173,
+    11,
+    252,
+    255,
+    3,
+    165,
+    165,
+];
+
+// its gm, radius, tide, N and date
+pub const HEAD_12: [u64; 5] = [
+    0x42f6_a866_5b91_1600,
+    0x4158_54a6_1333_3333,
+    0x0000_0000_0000_0000,
+    0x0000_0000_0000_0000,
+    0x0000_0000_0000_0005,
+];
+
+// its c, and two of the list behind them
+pub const C_12: [u64; 3] = [
+    0x7ff0_0000_0000_0001,
+    0x5a5a_1234_5a5a_9876,
+    0x5a5a_1234_5a5a_9876,
+];
+
+// its s, and two of the list behind them
+pub const S_12: [u64; 3] = [
+    0xfffc_0bad_cafe_7e57,
+    0x5a5a_1234_5a5a_9876,
+    0x5a5a_1234_5a5a_9876,
+];
+
+// file 13: its bytes, and two of the list behind them
+pub const FILE_13: [u8; 44] = [
+    4,
+    0,
+    22,
+    145,
+    91,
+    102,
+    168,
+    246,
+    66,
+    51,
+    51,
+    51,
+    19,
+    166,
+    84,
+    88,
+    65,
+    1,
+    0,
+    0,
+    0,
+    0,
+    0,
+    128,
+    2,
+    1,
+    0,
+    0,
+    0,
+    0,
+    0,
+    240,
+    127,
+    87,
+    126,
+    254,
+    202,
+    173,
+    11,
+    252,
+    255,
+    3,
+    165,
+    165,
+];
+
+// its gm, radius, tide, N and date
+pub const HEAD_13: [u64; 5] = [
+    0x42f6_a866_5b91_1600,
+    0x4158_54a6_1333_3333,
+    0x0000_0000_0000_0001,
+    0x0000_0000_0000_0000,
+    0x0000_0000_0000_0006,
+];
+
+// its c, and two of the list behind them
+pub const C_13: [u64; 3] = [
+    0x7ff0_0000_0000_0001,
+    0x5a5a_1234_5a5a_9876,
+    0x5a5a_1234_5a5a_9876,
+];
+
+// its s, and two of the list behind them
+pub const S_13: [u64; 3] = [
+    0xfffc_0bad_cafe_7e57,
+    0x5a5a_1234_5a5a_9876,
+    0x5a5a_1234_5a5a_9876,
+];
+
+// file 14: its bytes, and two of the list behind them
+pub const FILE_14: [u8; 78] = [
+    4,
+    51,
+    51,
+    51,
+    19,
+    166,
+    84,
+    88,
+    65,
+    0,
+    22,
+    145,
+    91,
+    102,
+    168,
+    246,
+    66,
+    1,
+    1,
+    0,
+    4,
+    3,
+    2,
+    1,
+    2,
+    1,
+    0,
+    0,
+    0,
+    0,
+    0,
+    0,
+    0,
+    0,
+    0,
+    0,
+    0,
+    0,
+    0,
+    0,
+    128,
+    2,
+    1,
+    0,
+    239,
+    190,
+    173,
+    222,
+    248,
+    127,
+    5,
+    0,
+    0,
+    0,
+    0,
+    0,
+    0,
+    0,
+    2,
+    3,
+    0,
+    0,
+    0,
+    0,
+    0,
+    0,
+    0,
+    1,
+    0,
+    0,
+    0,
+    0,
+    0,
+    240,
+    127,
+    3,
+    165,
+    165,
+];
+
+// its gm, radius, tide, N and date
+pub const HEAD_14: [u64; 5] = [
+    0x4158_54a6_1333_3333,
+    0x42f6_a866_5b91_1600,
+    0x0000_0000_0000_0001,
+    0x0000_0000_0000_0001,
+    0x0000_0000_0000_0007,
+];
+
+// its c, and two of the list behind them
+pub const C_14: [u64; 5] = [
+    0x0000_0000_0000_0001,
+    0x7ff8_dead_beef_0001,
+    0x0000_0000_0000_0003,
+    0x5a5a_1234_5a5a_9876,
+    0x5a5a_1234_5a5a_9876,
+];
+
+// its s, and two of the list behind them
+pub const S_14: [u64; 5] = [
+    0x8000_0000_0000_0000,
+    0x0000_0000_0000_0005,
+    0x7ff0_0000_0000_0001,
+    0x5a5a_1234_5a5a_9876,
+    0x5a5a_1234_5a5a_9876,
+];
+
+// file 15: its bytes, and two of the list behind them
+pub const FILE_15: [u8; 129] = [
+    4,
+    1,
+    0,
+    239,
+    190,
+    173,
+    222,
+    248,
+    127,
+    0,
+    0,
+    0,
+    0,
+    0,
+    0,
+    0,
+    128,
+    2,
+    2,
+    0,
+    239,
+    205,
+    171,
+    137,
+    2,
+    21,
+    0,
+    0,
+    0,
+    0,
+    0,
+    0,
+    0,
+    31,
+    0,
+    0,
+    0,
+    0,
+    0,
+    0,
+    0,
+    2,
+    22,
+    0,
+    0,
+    0,
+    0,
+    0,
+    0,
+    0,
+    32,
+    0,
+    0,
+    0,
+    0,
+    0,
+    0,
+    0,
+    2,
+    23,
+    0,
+    0,
+    0,
+    0,
+    0,
+    0,
+    0,
+    33,
+    0,
+    0,
+    0,
+    0,
+    0,
+    0,
+    0,
+    2,
+    24,
+    0,
+    0,
+    0,
+    0,
+    0,
+    0,
+    0,
+    34,
+    0,
+    0,
+    0,
+    0,
+    0,
+    0,
+    0,
+    2,
+    25,
+    0,
+    0,
+    0,
+    0,
+    0,
+    0,
+    0,
+    35,
+    0,
+    0,
+    0,
+    0,
+    0,
+    0,
+    0,
+    2,
+    26,
+    0,
+    0,
+    0,
+    0,
+    0,
+    0,
+    0,
+    36,
+    0,
+    0,
+    0,
+    0,
+    0,
+    0,
+    0,
+    3,
+    165,
+    165,
+];
+
+// its gm, radius, tide, N and date
+pub const HEAD_15: [u64; 5] = [
+    0x7ff8_dead_beef_0001,
+    0x8000_0000_0000_0000,
+    0x0000_0000_0000_0002,
+    0x0000_0000_0000_0002,
+    0x0000_0000_0000_0008,
+];
+
+// its c, and two of the list behind them
+pub const C_15: [u64; 8] = [
+    0x0000_0000_0000_0015,
+    0x0000_0000_0000_0016,
+    0x0000_0000_0000_0017,
+    0x0000_0000_0000_0018,
+    0x0000_0000_0000_0019,
+    0x0000_0000_0000_001a,
+    0x5a5a_1234_5a5a_9876,
+    0x5a5a_1234_5a5a_9876,
+];
+
+// its s, and two of the list behind them
+pub const S_15: [u64; 8] = [
+    0x0000_0000_0000_001f,
+    0x0000_0000_0000_0020,
+    0x0000_0000_0000_0021,
+    0x0000_0000_0000_0022,
+    0x0000_0000_0000_0023,
+    0x0000_0000_0000_0024,
     0x5a5a_1234_5a5a_9876,
     0x5a5a_1234_5a5a_9876,
 ];

@@ -8,7 +8,7 @@ use model_file::FileHead;
 use model_file::Reading;
 use refusal::Answer;
 ghost use mathlib.Core.Path.{_≡_};
-ghost use Prim.Native.Nat.{_+_, _*_, _≤_};
+ghost use Prim.Native.Nat.{_+_, _≤_};
 ghost use lib.ListN.{length};
 
 // What stands in lists before a call.
@@ -38,17 +38,25 @@ fn tide_system(number: u64) -> TideSystem {
     }
 }
 
-// A head as four words, and from them.
-fn words_of(h: FileHead) -> [u64; 4] {
+// A head as five words, and from them.
+fn words_of(h: FileHead) -> [u64; 5] {
     let tide = h.tide;
-    [h.gm, h.radius, tide_number(tide), h.nmax as u64]
+    let date = h.date;
+    [
+        h.gm,
+        h.radius,
+        tide_number(tide),
+        h.nmax as u64,
+        replay_cases::date_number(date),
+    ]
 }
 
-fn head_of(words: &[u64; 4]) -> FileHead {
+fn head_of(words: &[u64; 5]) -> FileHead {
     FileHead {
         gm: words[0],
         radius: words[1],
         tide: tide_system(words[2]),
+        date: replay_cases::date_of(words[4]),
         nmax: words[3] as usize,
     }
 }
@@ -79,7 +87,7 @@ fn print_read(
     h: FileHead,
     cread: &[u64; 12],
     sread: &[u64; 12],
-    head: &[u64; 4],
+    head: &[u64; 5],
     c: &[u64],
     s: &[u64],
 )
@@ -97,7 +105,7 @@ fn print_model(
     cread: &[u64; 12],
     sread: &[u64; 12],
     file: &[u8],
-    head: &[u64; 4],
+    head: &[u64; 5],
     c: &[u64],
     s: &[u64],
 )
@@ -108,10 +116,10 @@ fn print_model(
 }
 
 // A file of T pairs, with two bytes behind it in `file`, and two words behind the T in `c` and in `s`.
-fn print_file(pairs: usize, file: &[u8], head: &[u64; 4], c: &[u64], s: &[u64])
-    requires { ⌜ pairs ≤ 10 ⌝ ∗ ⌜ length (now file) ≡ 17 * pairs + 23 ⌝ ∗ ⌜ length (now c) ≡ pairs + 2 ⌝ ∗ ⌜ length (now s) ≡ pairs + 2 ⌝ }
+fn print_file(pairs: usize, file: &[u8], head: &[u64; 5], c: &[u64], s: &[u64])
+    requires { ⌜ pairs ≤ 10 ⌝ ∗ ⌜ 2 ≤ length (now file) ⌝ ∗ ⌜ length (now file) ≤ 200 ⌝ ∗ ⌜ length (now c) ≡ pairs + 2 ⌝ ∗ ⌜ length (now s) ≡ pairs + 2 ⌝ }
 {
-    let bytes = 17 * pairs + 21;
+    let bytes = file.len() - 2;
     let mut cread = [WORD; 12];
     let mut sread = [WORD; 12];
     match model_file::read(&file[..bytes], &mut cread, &mut sread) {
@@ -125,8 +133,7 @@ fn print_file(pairs: usize, file: &[u8], head: &[u64; 4], c: &[u64], s: &[u64])
     }
 }
 
-fn main() {
-    replay_cases::control();
+fn print_undated() {
     print_file(1, &files::FILE_0, &files::HEAD_0, &files::C_0, &files::S_0);
     print_file(3, &files::FILE_1, &files::HEAD_1, &files::C_1, &files::S_1);
     print_file(6, &files::FILE_2, &files::HEAD_2, &files::C_2, &files::S_2);
@@ -135,4 +142,61 @@ fn main() {
     print_file(3, &files::FILE_5, &files::HEAD_5, &files::C_5, &files::S_5);
     print_file(1, &files::FILE_6, &files::HEAD_6, &files::C_6, &files::S_6);
     print_file(6, &files::FILE_7, &files::HEAD_7, &files::C_7, &files::S_7);
+}
+
+fn print_small_dated() {
+    print_file(1, &files::FILE_8, &files::HEAD_8, &files::C_8, &files::S_8);
+    print_file(1, &files::FILE_9, &files::HEAD_9, &files::C_9, &files::S_9);
+    print_file(
+        1,
+        &files::FILE_10,
+        &files::HEAD_10,
+        &files::C_10,
+        &files::S_10,
+    );
+    print_file(
+        1,
+        &files::FILE_11,
+        &files::HEAD_11,
+        &files::C_11,
+        &files::S_11,
+    );
+    print_file(
+        1,
+        &files::FILE_12,
+        &files::HEAD_12,
+        &files::C_12,
+        &files::S_12,
+    );
+    print_file(
+        1,
+        &files::FILE_13,
+        &files::HEAD_13,
+        &files::C_13,
+        &files::S_13,
+    );
+}
+
+fn print_larger_dated() {
+    print_file(
+        3,
+        &files::FILE_14,
+        &files::HEAD_14,
+        &files::C_14,
+        &files::S_14,
+    );
+    print_file(
+        6,
+        &files::FILE_15,
+        &files::HEAD_15,
+        &files::C_15,
+        &files::S_15,
+    );
+}
+
+fn main() {
+    replay_cases::control();
+    print_undated();
+    print_small_dated();
+    print_larger_dated();
 }

@@ -3,6 +3,7 @@
 mod factors;
 mod fields;
 
+use coefficients::Date;
 use coefficients::Head;
 use coefficients::Model;
 use coefficients::TideSystem;
@@ -72,6 +73,7 @@ fn head_of(words: &[u64; 4]) -> Head {
         gm: number::number_of_bits(words[0]),
         radius: number::number_of_bits(words[1]),
         tide_system: TideSystem::Unknown,
+        date: Date::None,
         nmax: 3,
     }
 }

@@ -3,6 +3,7 @@
 mod models;
 mod points;
 
+use coefficients::Date;
 use coefficients::Head;
 use coefficients::Model;
 use coefficients::TideSystem;
@@ -20,6 +21,7 @@ fn head() -> Head {
         gm: 398600441500000.0,
         radius: 6378136.3,
         tide_system: TideSystem::Unknown,
+        date: Date::None,
         nmax: 4,
     }
 }

@@ -126,48 +126,48 @@ fn print_tables() {
 
 fn print_zeros_heads() {
     replay_print::show_words(b"head of zeros ", &models::zeros_head(0), &cases::HEADS, 0);
-    replay_print::show_words(b"head of zeros ", &models::zeros_head(1), &cases::HEADS, 4);
+    replay_print::show_words(b"head of zeros ", &models::zeros_head(1), &cases::HEADS, 5);
 }
 
-// The head of a field of degree 1 with a tide system, cut at `cut`, and the one due at index `at`.
-fn print_truncated_head(tide: usize, cut: usize, at: usize)
-    requires { ⌜ at ≤ 48 ⌝ }
+// The head of a field of degree 1 with a tide system and a date, cut at `cut`, and the one due at index `at`.
+fn print_truncated_head(tide: usize, cut: usize, date: u64, at: usize)
+    requires { ⌜ at ≤ 60 ⌝ }
 {
     replay_print::show_words(
         b"head of truncated ",
-        &models::truncated_head(tide, cut),
+        &models::truncated_head(tide, cut, date),
         &cases::HEADS,
         at,
     );
 }
 
 fn print_truncated_heads() {
-    print_truncated_head(0, 0, 8);
-    print_truncated_head(1, 0, 12);
-    print_truncated_head(2, 0, 16);
-    print_truncated_head(3, 0, 20);
-    print_truncated_head(0, 1, 24);
-    print_truncated_head(1, 2, 28);
-    print_truncated_head(2, 2701, 32);
+    print_truncated_head(0, 0, 0, 10);
+    print_truncated_head(1, 0, 1, 15);
+    print_truncated_head(2, 0, 3, 20);
+    print_truncated_head(3, 0, 6, 25);
+    print_truncated_head(0, 1, 4, 30);
+    print_truncated_head(1, 2, 5, 35);
+    print_truncated_head(2, 2701, 0, 40);
 }
 
-// The head of a rescaled field with a tide system, and the one due at index `at`.
-fn print_rescaled_head(tide: usize, at: usize)
-    requires { ⌜ at ≤ 48 ⌝ }
+// The head of a rescaled field with a tide system and a date, and the one due at index `at`.
+fn print_rescaled_head(tide: usize, date: u64, at: usize)
+    requires { ⌜ at ≤ 60 ⌝ }
 {
     replay_print::show_words(
         b"head of rescaled ",
-        &models::rescaled_head(tide),
+        &models::rescaled_head(tide, date),
         &cases::HEADS,
         at,
     );
 }
 
 fn print_rescaled_heads() {
-    print_rescaled_head(0, 36);
-    print_rescaled_head(1, 40);
-    print_rescaled_head(2, 44);
-    print_rescaled_head(3, 48);
+    print_rescaled_head(0, 0, 45);
+    print_rescaled_head(1, 1, 50);
+    print_rescaled_head(2, 8, 55);
+    print_rescaled_head(3, 6, 60);
 }
 
 fn main() {

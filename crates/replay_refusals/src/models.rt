@@ -51,13 +51,18 @@ fn tide_system(number: usize) -> TideSystem {
     }
 }
 
-fn head_of(tide: usize, nmax: usize) -> Head {
+fn dated_head(tide: usize, date: u64, nmax: usize) -> Head {
     Head {
         gm: 3.5,
         radius: 7.25,
         tide_system: tide_system(tide),
+        date: replay_cases::date_of(date),
         nmax,
     }
+}
+
+fn head_of(tide: usize, nmax: usize) -> Head {
+    dated_head(tide, 0, nmax)
 }
 
 // n, the functional, and how many Love numbers.
@@ -163,25 +168,25 @@ pub fn set(case: &[u64], x: &mut [f64], y: &mut [f64]) -> u64
     of_answer(head.set(&mut x[..a], &mut y[..b], n, m, 1.0, 2.0))
 }
 
-pub fn zeros_head(nmax: usize) -> [u64; 4] {
+pub fn zeros_head(nmax: usize) -> [u64; 5] {
     let mut c = [0.5; 3];
     let mut s = [0.5; 3];
     head_words(Head::zeros(3.5, 7.25, nmax, &mut c, &mut s))
 }
 
-// Of a field of degree 1 with this tide.
-pub fn truncated_head(tide: usize, cut: usize) -> [u64; 4] {
+// Of a field of degree 1 with this tide and the date of this number.
+pub fn truncated_head(tide: usize, cut: usize, date: u64) -> [u64; 5] {
     let list = [0.5; 3];
     let mut c = [0.5; 3];
     let mut s = [0.5; 3];
-    let head = head_of(tide, 1);
+    let head = dated_head(tide, date, 1);
     head_words(head.truncated(&list, &list, cut, &mut c, &mut s))
 }
 
-pub fn rescaled_head(tide: usize) -> [u64; 4] {
+pub fn rescaled_head(tide: usize, date: u64) -> [u64; 5] {
     let list = [0.5; 3];
     let mut c = [0.5; 3];
     let mut s = [0.5; 3];
-    let head = head_of(tide, 1);
+    let head = dated_head(tide, date, 1);
     head_words(head.rescaled(&list, &list, 2.5, 1.75, &mut c, &mut s))
 }

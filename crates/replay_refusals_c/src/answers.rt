@@ -148,8 +148,8 @@ pub const FILE: [u8; 72] = [
     3,
 ];
 
-// what it holds: c, s, gm, radius, tide and N
-pub const READ: [u64; 14] = [
+// what it holds: c, s, gm, radius, tide, N, dated and the bits of the date
+pub const READ: [u64; 16] = [
     0x0000_0000_0000_0000,
     0x0102_0304_0506_0708,
     0x0000_0000_0000_0001,
@@ -163,12 +163,116 @@ pub const READ: [u64; 14] = [
     0xfedc_ba98_7654_3210,
     0x0000_0000_0000_0002,
     0x0000_0000_0000_0001,
+    0x0000_0000_0000_0000,
+    0x0000_0000_0000_0000,
+    0x5a5a_1234_5a5a_9876,
+];
+
+// the same with a date
+pub const DATED: [u8; 76] = [
+    4,
+    239,
+    205,
+    171,
+    137,
+    103,
+    69,
+    35,
+    1,
+    16,
+    50,
+    84,
+    118,
+    152,
+    186,
+    220,
+    254,
+    2,
+    1,
+    0,
+    239,
+    205,
+    171,
+    137,
+    2,
+    8,
+    7,
+    6,
+    5,
+    4,
+    3,
+    2,
+    1,
+    136,
+    151,
+    166,
+    181,
+    196,
+    211,
+    226,
+    241,
+    2,
+    1,
+    0,
+    0,
+    0,
+    0,
+    0,
+    0,
+    0,
+    2,
+    0,
+    0,
+    0,
+    0,
+    0,
+    0,
+    0,
+    2,
+    255,
+    255,
+    255,
+    255,
+    255,
+    255,
+    255,
+    255,
+    0,
+    0,
+    0,
+    0,
+    0,
+    0,
+    0,
+    128,
+    3,
+];
+
+// what that holds
+pub const READ_DATED: [u64; 16] = [
+    0x0000_0000_0000_0000,
+    0x0102_0304_0506_0708,
+    0x0000_0000_0000_0001,
+    0xffff_ffff_ffff_ffff,
+    0x5a5a_1234_5a5a_9876,
+    0xf1e2_d3c4_b5a6_9788,
+    0x0000_0000_0000_0002,
+    0x8000_0000_0000_0000,
+    0x5a5a_1234_5a5a_9876,
+    0x0123_4567_89ab_cdef,
+    0xfedc_ba98_7654_3210,
+    0x0000_0000_0000_0002,
+    0x0000_0000_0000_0001,
+    0x0000_0000_0000_0001,
+    0x0000_0000_89ab_cdef,
     0x5a5a_1234_5a5a_9876,
 ];
 
 // with a record of another kind at byte 20
-pub const READ_KIND: [u64; 14] = [
+pub const READ_KIND: [u64; 16] = [
     0x0000_0000_0000_0007,
+    0x5a5a_1234_5a5a_9876,
+    0x5a5a_1234_5a5a_9876,
     0x5a5a_1234_5a5a_9876,
     0x5a5a_1234_5a5a_9876,
     0x5a5a_1234_5a5a_9876,
@@ -262,7 +366,7 @@ pub const LONG: [u8; 73] = [
 ];
 
 // what is read of that
-pub const READ_LONG: [u64; 14] = [
+pub const READ_LONG: [u64; 16] = [
     0x0000_0000_0000_0008,
     0x5a5a_1234_5a5a_9876,
     0x5a5a_1234_5a5a_9876,
@@ -277,4 +381,138 @@ pub const READ_LONG: [u64; 14] = [
     0x5a5a_1234_5a5a_9876,
     0x5a5a_1234_5a5a_9876,
     0x5a5a_1234_5a5a_9876,
+    0x5a5a_1234_5a5a_9876,
+    0x5a5a_1234_5a5a_9876,
 ];
+
+// the front of that file
+pub const CUT: [u8; 19] = [
+    1,
+    239,
+    205,
+    171,
+    137,
+    103,
+    69,
+    35,
+    1,
+    16,
+    50,
+    84,
+    118,
+    152,
+    186,
+    220,
+    254,
+    2,
+    1,
+];
+
+// what is told of its lists
+pub const LENGTHS_CUT: [u64; 6] = [6, 1234, 1234, 1234, 1234, 1234];
+
+// the front of that file
+pub const HEAD: [u8; 20] = [
+    1,
+    239,
+    205,
+    171,
+    137,
+    103,
+    69,
+    35,
+    1,
+    16,
+    50,
+    84,
+    118,
+    152,
+    186,
+    220,
+    254,
+    2,
+    1,
+    0,
+];
+
+// what is told of its lists
+pub const LENGTHS_HEAD: [u64; 6] = [0, 72, 3, 3, 6, 1234];
+
+// what is told of its lists
+pub const LENGTHS_FILE: [u64; 6] = [0, 72, 3, 3, 6, 1234];
+
+// the front of that file
+pub const DATED_CUT: [u8; 23] = [
+    4,
+    239,
+    205,
+    171,
+    137,
+    103,
+    69,
+    35,
+    1,
+    16,
+    50,
+    84,
+    118,
+    152,
+    186,
+    220,
+    254,
+    2,
+    1,
+    0,
+    239,
+    205,
+    171,
+];
+
+// what is told of its lists
+pub const LENGTHS_DATED_CUT: [u64; 6] = [6, 1234, 1234, 1234, 1234, 1234];
+
+// the front of that file
+pub const DATED_HEAD: [u8; 24] = [
+    4,
+    239,
+    205,
+    171,
+    137,
+    103,
+    69,
+    35,
+    1,
+    16,
+    50,
+    84,
+    118,
+    152,
+    186,
+    220,
+    254,
+    2,
+    1,
+    0,
+    239,
+    205,
+    171,
+    137,
+];
+
+// what is told of its lists
+pub const LENGTHS_DATED_HEAD: [u64; 6] = [0, 76, 3, 3, 6, 1234];
+
+// what is told of its lists
+pub const LENGTHS_DATED: [u64; 6] = [0, 76, 3, 3, 6, 1234];
+
+// of a file of degree 1
+pub const WRITE_LENGTHS: [u64; 5] = [0, 3, 3, 72, 1234];
+
+// of a file of degree 1 with a date
+pub const WRITE_LENGTHS_DATED: [u64; 5] = [0, 3, 3, 76, 1234];
+
+// of a file of degree 2700 with a date
+pub const WRITE_LENGTHS_LARGE: [u64; 5] = [0, 3649051, 3649051, 62033892, 1234];
+
+// of a file of degree 2701 with a date
+pub const WRITE_LENGTHS_BEYOND: [u64; 5] = [1, 1234, 1234, 1234, 1234];

@@ -5,6 +5,7 @@ mod answers;
 mod cases;
 mod entries;
 mod model_files;
+mod told;
 mod values;
 
 use replay_cases::MARK;
@@ -76,9 +77,9 @@ fn run(which: usize, cases: &[u64], out: &mut [u64])
 }
 
 fn print(name: &[u8], which: usize, cases: &[u64], due: &[u64])
-    requires { ⌜ length (now name) ≤ 80 ⌝ ∗ ⌜ length (now cases) ≤ 600 ⌝ ∗ ⌜ length (now due) ≤ 100 ⌝ }
+    requires { ⌜ length (now name) ≤ 80 ⌝ ∗ ⌜ length (now cases) ≤ 720 ⌝ ∗ ⌜ length (now due) ≤ 120 ⌝ }
 {
-    let mut out = [0u64; 100];
+    let mut out = [0u64; 120];
     run(which, cases, &mut out);
     replay_cases::print_line(name, &out, due);
 }
@@ -116,4 +117,5 @@ fn main() {
         &cases::MODEL_WRITE_DUE,
     );
     values::show_values();
+    told::show_told();
 }

@@ -143,10 +143,10 @@ fn show_zeros() {
 }
 
 // What is read of a file of degree 1: c, s and the head, each with one place behind it.
-fn read(bytes: &[u8]) -> [u64; 14] {
+fn read(bytes: &[u8]) -> [u64; 16] {
     let mut c = [MARK_WORD; 4];
     let mut s = [MARK_WORD; 4];
-    let mut h = [MARK_WORD; 5];
+    let mut h = [MARK_WORD; 7];
     let number = geopotential_model_read(bytes, &mut c, &mut s, &mut h);
     [
         number as u64,
@@ -163,13 +163,17 @@ fn read(bytes: &[u8]) -> [u64; 14] {
         h[2],
         h[3],
         h[4],
+        h[5],
+        h[6],
     ]
 }
 
-// Of the file, of one with a record of another kind, of one with a byte too many.
+// Of the file, of the same with a date, of one with a record of another kind, of one with a byte too many.
 fn show_read() {
     let whole = read(&answers::FILE);
     print_line(b"model_read, values ", &whole, &answers::READ);
+    let dated = read(&answers::DATED);
+    print_line(b"model_read, dated values ", &dated, &answers::READ_DATED);
     let mut other = answers::FILE;
     other[20] = 3;
     let kind = read(&other);
@@ -178,16 +182,21 @@ fn show_read() {
     print_line(b"model_read, AFTER ", &long, &answers::READ_LONG);
 }
 
-// What is read of the file that is written of the same numbers.
+// What is read of the files that are written of the same numbers; the first has no date, whatever the day count.
 fn show_written() {
     let mut out = [MARK_BYTE; 72];
+    let mut long = [MARK_BYTE; 76];
     let c = [0x0102_0304_0506_0708, 1, 0xffff_ffff_ffff_ffff];
     let s = [0xf1e2_d3c4_b5a6_9788, 2, 0x8000_0000_0000_0000];
     let gm = 0x0123_4567_89ab_cdef;
     let radius = 0xfedc_ba98_7654_3210;
-    geopotential_model_write(gm, radius, 2, 1, &c, &s, &mut out);
+    let days = -1985229329;
+    geopotential_model_write(gm, radius, 2, 0, days, 1, &c, &s, &mut out);
     let words = read(&out);
     print_line(b"model_write, values ", &words, &answers::READ);
+    geopotential_model_write(gm, radius, 2, 7, days, 1, &c, &s, &mut long);
+    let dated = read(&long);
+    print_line(b"model_write, dated values ", &dated, &answers::READ_DATED);
 }
 
 pub fn show_values() {

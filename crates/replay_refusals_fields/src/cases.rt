@@ -3901,14 +3901,16 @@ pub const POLAR_CAP_DUE: [u64; 60] = [
     0,
 ];
 
-// heads of analysed models: gm, radius, tide and N
-pub const HEADS: [u64; 8] = [
+// heads of analysed models: gm, radius, tide, N and date
+pub const HEADS: [u64; 10] = [
     0x400c_0000_0000_0000,
     0x401d_0000_0000_0000,
     0x0000_0000_0000_0003,
+    0x0000_0000_0000_0000,
     0x0000_0000_0000_0000,
     0x400c_0000_0000_0000,
     0x401d_0000_0000_0000,
     0x0000_0000_0000_0003,
     0x0000_0000_0000_0001,
+    0x0000_0000_0000_0000,
 ];

@@ -1,6 +1,7 @@
 // The calls of synthesis, slepian, partials and analysis, each on the sizes and lengths of a case: parts of `list` are its inputs, parts of x and y its
 // outputs, and of w its working list.
 use analysis::analysis;
+use coefficients::Date;
 use coefficients::Head;
 use coefficients::TideSystem;
 use legendre::Latitude;
@@ -17,6 +18,7 @@ fn head_of(nmax: usize) -> Head {
         gm: 3.5,
         radius: 7.25,
         tide_system: TideSystem::ZeroTide,
+        date: Date::None,
         nmax,
     }
 }

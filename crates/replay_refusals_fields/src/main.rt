@@ -82,7 +82,7 @@ fn head_of(
     weights: &[f64],
     latitudes: &[f64],
     trig: &[f64],
-) -> [u64; 4] {
+) -> [u64; 5] {
     let love = [0.5; 1];
     let mut work = [0.5; 9];
     let mut c = [0.5; 3];
@@ -120,7 +120,7 @@ fn print_heads() {
         b"head of analysis ",
         &head_of(1, &eight, &two, &four, &sixteen),
         &cases::HEADS,
-        4,
+        5,
     );
 }
 

@@ -1,7 +1,8 @@
 // Replays what document 01's table of refusals says of model files (cases.rt): for each call a line, how many of its refusals, and of the places that it
-// changes in the lists lent to it, are those due. The reader's cases are damaged copies of one file.
+// changes in the lists lent to it, are those due. The reader's cases are damaged copies of a file without a date and of one with a date.
 mod cases;
 
+use coefficients::Date;
 use coefficients::TideSystem;
 use model_file::FileHead;
 use model_file::Reading;
@@ -18,29 +19,37 @@ use replay_cases::touched_words;
 ghost use Prim.Native.Nat.{_*_, _≤_, _<_};
 ghost use lib.ListN.{length};
 
-// How many bytes are kept of the file, and one that stands behind it.
+// How many bytes are kept of the file and of what stands behind it.
 fn kept(case: &[u64]) -> usize
-    ensures { λ r. ⌜ r ≤ 73 ⌝ }
+    ensures { λ r. ⌜ r ≤ 77 ⌝ }
 {
     let k = size(case, 0);
-    if k <= 73 { k } else { 73 }
+    if k <= 77 { k } else { 77 }
 }
 
 // A place of the file, and a byte, by their columns.
 fn place(case: &[u64], at: usize) -> usize
-    ensures { λ r. ⌜ r < 73 ⌝ }
+    ensures { λ r. ⌜ r < 77 ⌝ }
 {
     let k = size(case, at);
-    if k < 73 { k } else { 72 }
+    if k < 77 { k } else { 76 }
 }
 
 fn byte(case: &[u64], at: usize) -> u8 {
     (column(case, at) % 256) as u8
 }
 
-// The file with two bytes changed.
-fn damaged(case: &[u64]) -> [u8; 73] {
-    let mut bytes = cases::FILE;
+fn file(dated: bool) -> [u8; 77] {
+    if dated {
+        cases::READ_DATED_FILE
+    } else {
+        cases::READ_FILE
+    }
+}
+
+// A file with two bytes changed.
+fn damaged(dated: bool, case: &[u64]) -> [u8; 77] {
+    let mut bytes = file(dated);
     let first = place(case, 1);
     bytes[first] = byte(case, 2);
     let second = place(case, 3);
@@ -54,7 +63,7 @@ fn of_reading(a: Reading) -> u64 {
 
 // A copy's length, two places and bytes, and the lengths of c and s.
 fn read(case: &[u64], bytes: &[u8], x: &mut [u64], y: &mut [u64]) -> u64
-    requires { ⌜ (73 ≤ length (now bytes)) × (64 ≤ length (now x)) × (64 ≤ length (now y)) ⌝ }
+    requires { ⌜ (77 ≤ length (now bytes)) × (64 ≤ length (now x)) × (64 ≤ length (now y)) ⌝ }
 {
     let k = kept(case);
     let a = room(case, 5);
@@ -62,8 +71,8 @@ fn read(case: &[u64], bytes: &[u8], x: &mut [u64], y: &mut [u64]) -> u64
     of_reading(model_file::read(&bytes[..k], &mut x[..a], &mut y[..b]))
 }
 
-fn show_read(case: &[u64]) -> Seen {
-    let bytes = damaged(case);
+fn show_read(dated: bool, case: &[u64]) -> Seen {
+    let bytes = damaged(dated, case);
     let mut x = [MARK_WORD; 64];
     let mut y = [MARK_WORD; 64];
     let number = read(case, &bytes, &mut x, &mut y);
@@ -75,21 +84,21 @@ fn show_read(case: &[u64]) -> Seen {
 
 // By the head alone, and by the whole file without lists.
 fn head(case: &[u64], bytes: &[u8]) -> u64
-    requires { ⌜ 73 ≤ length (now bytes) ⌝ }
+    requires { ⌜ 77 ≤ length (now bytes) ⌝ }
 {
     let k = kept(case);
     of_reading(model_file::head(&bytes[..k]))
 }
 
 fn verdict(case: &[u64], bytes: &[u8]) -> u64
-    requires { ⌜ 73 ≤ length (now bytes) ⌝ }
+    requires { ⌜ 77 ≤ length (now bytes) ⌝ }
 {
     let k = kept(case);
     of_answer(model_file::verdict(&bytes[..k]))
 }
 
-fn show_verdict(case: &[u64]) -> Seen {
-    let bytes = damaged(case);
+fn show_verdict(dated: bool, case: &[u64]) -> Seen {
+    let bytes = damaged(dated, case);
     Seen {
         number: head(case, &bytes),
         touched: verdict(case, &bytes),
@@ -97,7 +106,7 @@ fn show_verdict(case: &[u64]) -> Seen {
 }
 
 // N, and the lengths of c, s and of the output.
-fn write(case: &[u64], list: &[u64], out: &mut [u8]) -> u64
+fn write(date: Date, case: &[u64], list: &[u64], out: &mut [u8]) -> u64
     requires { ⌜ (64 ≤ length (now list)) × (64 ≤ length (now out)) ⌝ }
 {
     let a = room(case, 1);
@@ -107,15 +116,16 @@ fn write(case: &[u64], list: &[u64], out: &mut [u8]) -> u64
         gm: 1,
         radius: 2,
         tide: TideSystem::MeanTide,
+        date,
         nmax: size(case, 0),
     };
     of_answer(model_file::write(file, &list[..a], &list[..b], &mut out[..k]))
 }
 
-fn show_write(case: &[u64]) -> Seen {
+fn show_write(date: Date, case: &[u64]) -> Seen {
     let list = [3u64; 64];
     let mut out = [MARK_BYTE; 64];
-    let number = write(case, &list, &mut out);
+    let number = write(date, case, &list, &mut out);
     Seen {
         number,
         touched: touched_bytes(&out),
@@ -125,9 +135,12 @@ fn show_write(case: &[u64]) -> Seen {
 // One case of a call.
 fn show(which: usize, case: &[u64]) -> Seen {
     match which {
-        0 => show_read(case),
-        1 => show_verdict(case),
-        _ => show_write(case),
+        0 => show_read(false, case),
+        1 => show_verdict(false, case),
+        2 => show_read(true, case),
+        3 => show_verdict(true, case),
+        4 => show_write(Date::None, case),
+        _ => show_write(Date::Days(-5), case),
     }
 }
 
@@ -157,6 +170,29 @@ fn print(name: &[u8], which: usize, cases: &[u64], due: &[u64])
 fn main() {
     replay_cases::control();
     print(b"read ", 0, &cases::READ, &cases::READ_DUE);
-    print(b"head and verdict ", 1, &cases::READ, &cases::VERDICT_DUE);
-    print(b"write ", 2, &cases::WRITE, &cases::WRITE_DUE);
+    print(
+        b"head and verdict ",
+        1,
+        &cases::READ,
+        &cases::READ_VERDICT_DUE,
+    );
+    print(
+        b"read of a dated file ",
+        2,
+        &cases::READ_DATED,
+        &cases::READ_DATED_DUE,
+    );
+    print(
+        b"head and verdict of a dated file ",
+        3,
+        &cases::READ_DATED,
+        &cases::READ_DATED_VERDICT_DUE,
+    );
+    print(b"write ", 4, &cases::WRITE, &cases::WRITE_DUE);
+    print(
+        b"write of a dated model ",
+        5,
+        &cases::WRITE_DATED,
+        &cases::WRITE_DATED_DUE,
+    );
 }
