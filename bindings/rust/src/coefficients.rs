@@ -42,13 +42,15 @@ pub struct Coefficients {
     pub radius: f64,
     /// Tide system of `C̄20`.
     pub tide_system: TideSystem,
+    /// The day that the field is of, in days from 2000-01-01, where one is stated. Added: the published type has none.
+    pub date: Option<i32>,
     pub(crate) nmax: usize,
     pub(crate) c: Vec<f64>,
     pub(crate) s: Vec<f64>,
 }
 
 impl Coefficients {
-    /// All-zero coefficients up to degree `nmax`, tide system [`TideSystem::Unknown`].
+    /// All-zero coefficients up to degree `nmax`, tide system [`TideSystem::Unknown`], no date.
     ///
     /// # Panics
     /// If `nmax > MAX_DEGREE`.
@@ -67,7 +69,7 @@ impl Coefficients {
 
     /// A field whose lists have these lengths and are still to be filled.
     pub(crate) fn with_lists(gm: f64, radius: f64, nmax: usize, c: usize, s: usize) -> Self {
-        Coefficients { gm, radius, tide_system: TideSystem::Unknown, nmax, c: vec![0.0; c], s: vec![0.0; s] }
+        Coefficients { gm, radius, tide_system: TideSystem::Unknown, date: None, nmax, c: vec![0.0; c], s: vec![0.0; s] }
     }
 
     /// Maximum degree.
@@ -139,21 +141,21 @@ impl Coefficients {
         Ok(amplitudes)
     }
 
-    /// The field cut to degree `nmax` (or unchanged if it is already at or below it).
+    /// The field cut to degree `nmax` (or unchanged if it is already at or below it). Tide system and date are kept.
     pub fn truncated(&self, nmax: usize) -> Coefficients {
         let [_, _, c, s] = or_panic(lengths::truncated(self.nmax, nmax));
         let mut out = Self::with_lists(self.gm, self.radius, self.nmax, c, s);
-        out.tide_system = self.tide_system;
+        (out.tide_system, out.date) = (self.tide_system, self.date);
         or_panic(models::truncated(self, nmax, &mut out));
         out
     }
 
     /// The same field expressed with another `GM` and reference radius:
-    /// `C̄'nm = C̄nm · (GM/GM') · (R/R')^n`, so that the synthesized potential is unchanged.
+    /// `C̄'nm = C̄nm · (GM/GM') · (R/R')^n`, so that the synthesized potential is unchanged. Tide system and date are kept.
     pub fn rescaled(&self, gm: f64, radius: f64) -> Coefficients {
         let [_, _, c, s] = or_panic(lengths::rescaled(self.nmax));
         let mut out = Self::with_lists(gm, radius, self.nmax, c, s);
-        out.tide_system = self.tide_system;
+        (out.tide_system, out.date) = (self.tide_system, self.date);
         or_panic(models::rescaled(self, &mut out));
         out
     }

@@ -26,8 +26,8 @@
 //!
 //! # Added
 //!
-//! [`Coefficients::partials_along`] takes many points at once, [`model_file`] keeps a field in a file with every bit of it, and
-//! [`Refusal`] says why a call was refused.
+//! [`Coefficients::partials_along`] takes many points at once, [`model_file`] keeps a field in a file with every bit of it,
+//! [`Coefficients::date`] is the day that a field is of, and [`Refusal`] says why a call was refused.
 //!
 //! # Not ported
 //!

@@ -51,6 +51,37 @@ fn tide_systems_survive() {
 }
 
 #[test]
+fn dates_survive() {
+    for days in [0, 1, -1, 8840, i32::MAX, i32::MIN] {
+        let mut field = Coefficients::zeros(1.0, 2.0, 1);
+        field.date = Some(days);
+        let bytes = model_file::write(&field).unwrap();
+        assert_eq!((bytes[0], bytes.len()), (4, 25 + 17 * 3));
+        assert_eq!(bytes[20..24], days.to_le_bytes());
+        assert_eq!(model_file::read(&bytes), Ok(field.clone()));
+        assert_eq!((field.truncated(0).date, field.rescaled(2.0, 1.0).date), (Some(days), Some(days)));
+        // A month and its copy without a date differ.
+        let mut undated = field.clone();
+        undated.date = None;
+        assert_ne!(undated, field);
+        assert_eq!(model_file::write(&undated).unwrap()[1..20], bytes[1..20]);
+    }
+}
+
+#[test]
+fn dated_heads_that_end_early() {
+    let mut field = Coefficients::zeros(1.0, 2.0, 0);
+    field.date = Some(-1);
+    let mut bytes = model_file::write(&field).unwrap();
+    // A head of kind 4 has 24 bytes, also where its tide system is none.
+    bytes[17] = 4;
+    for cut in 1..24 {
+        assert_eq!(model_file::read(&bytes[..cut]), Err(Refusal::Short));
+    }
+    assert_eq!(model_file::read(&bytes[..24]), Err(Refusal::Tide));
+}
+
+#[test]
 fn damaged_files() {
     let bytes = model_file::write(&Coefficients::zeros(1.0, 2.0, 2)).unwrap();
     for cut in 0..bytes.len() {

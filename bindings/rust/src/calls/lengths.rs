@@ -33,8 +33,6 @@ lengths! {
     fn degree_variances(nmax) -> 3 = geopotential_degree_variances_lengths;
     /// c, s, love, out.
     fn degree_amplitudes(nmax) -> 4 = geopotential_degree_amplitudes_lengths;
-    /// c, s, out (bytes).
-    fn model_write(nmax) -> 3 = geopotential_model_write_lengths;
     /// a, b.
     fn legendre_new(nmax) -> 2 = geopotential_legendre_new_lengths;
     /// a, b, p.
@@ -65,6 +63,12 @@ pub fn model_read(bytes: &[u8]) -> Result<[usize; 4], Refusal> {
     told(|lengths, count| unsafe { geopotential_model_read_lengths(bytes.as_ptr(), bytes.len(), lengths, count) })
 }
 
+/// c, s, out (bytes), the last longer where a date is stated.
+pub fn model_write(nmax: usize, dated: bool) -> Result<[usize; 3], Refusal> {
+    // SAFETY: `lengths` and `count` are the list that `told` made for this call alone.
+    told(|lengths, count| unsafe { geopotential_model_write_lengths(nmax, dated.into(), lengths, count) })
+}
+
 #[cfg(test)]
 mod tests {
     use super::*;
@@ -85,7 +89,8 @@ mod tests {
             assert_eq!(truncated(n, usize::MAX), Ok([t; 4]));
             assert_eq!(degree_variances(n), Ok([t, t, n + 1]));
             assert_eq!(degree_amplitudes(n), Ok([t, t, n + 1, n + 1]));
-            assert_eq!(model_write(n), Ok([t, t, 21 + 17 * t]));
+            assert_eq!(model_write(n, false), Ok([t, t, 21 + 17 * t]));
+            assert_eq!(model_write(n, true), Ok([t, t, 25 + 17 * t]));
         }
     }
 
@@ -119,9 +124,14 @@ mod tests {
     fn lengths_of_a_file_come_from_its_head() {
         let mut head = [0; 20];
         (head[0], head[17], head[18]) = (1, 3, 2);
-        // The four words of a head, whose place is an array.
-        assert_eq!(model_read(&head), Ok([123, 6, 6, 4]));
+        // The six words of a head, whose place is an array.
+        assert_eq!(model_read(&head), Ok([123, 6, 6, 6]));
         assert_eq!(model_read(&head[..19]), Err(Refusal::Short));
+        // With a date four bytes more are looked at, whatever they hold.
+        let mut dated = [&head[..], &[1, 2, 3, 255]].concat();
+        dated[0] = 4;
+        assert_eq!(model_read(&dated), Ok([127, 6, 6, 6]));
+        assert_eq!(model_read(&dated[..23]), Err(Refusal::Short));
         head[19] = 255;
         assert_eq!(model_read(&head), Err(Refusal::Size));
         head[17] = 4;

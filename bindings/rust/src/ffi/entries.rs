@@ -81,7 +81,7 @@ unsafe extern "C" {
         out_len: usize,
     ) -> u32;
 
-    /// The four words of `head` are gm, radius (bit patterns), tide, N.
+    /// The six words of `head` are gm, radius (bit patterns), tide, N, dated (1 or 0), the 32 bits of the day count.
     pub fn geopotential_model_read(
         bytes: *const u8,
         bytes_len: usize,
@@ -96,6 +96,8 @@ unsafe extern "C" {
         gm: u64,
         radius: u64,
         tide: u32,
+        dated: u32,
+        days: i32,
         nmax: usize,
         c: *const u64,
         c_len: usize,
