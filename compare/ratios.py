@@ -33,6 +33,8 @@ ROWS = [
     ("polar_cap L = 180", "polar_cap L = 180", "ratio", 0.8),
     ("model file read N = 2700, GB/s", "model_read, N = 2700, GB/s", "rate", 1.0),
     ("model file write N = 2700, GB/s", "model_write, N = 2700, GB/s", "rate", 1.0),
+    ("model file read, dated, N = 2700, GB/s", "model_read, dated, N = 2700, GB/s", "rate", 1.0),
+    ("model file write, dated, N = 2700, GB/s", "model_write, dated, N = 2700, GB/s", "rate", 1.0),
 ]
 
 

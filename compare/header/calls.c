@@ -100,20 +100,30 @@ static void coefficients(void)
 static void model_files(void)
 {
     const uint64_t one = geopotential_bits_of_number(1);
-    uint64_t c[1] = {one}, s[1] = {0}, head[4];
-    uint8_t file[38];
+    uint64_t c[1] = {one}, s[1] = {0}, head[6];
+    uint8_t file[38], dated[42];
     size_t lengths[LISTS];
-    CHECK(geopotential_model_write_lengths(0, lengths, LISTS) == GEOPOTENTIAL_DONE && lengths[2] == sizeof file);
-    CHECK(geopotential_model_write(one, one, GEOPOTENTIAL_TIDE_UNKNOWN, 0, c, 1, s, 1, file, lengths[2]) == GEOPOTENTIAL_DONE);
-    CHECK(geopotential_model_write(one, one, 4, 0, c, 1, s, 1, file, sizeof file) == GEOPOTENTIAL_TIDE);
+    CHECK(geopotential_model_write_lengths(0, 0, lengths, LISTS) == GEOPOTENTIAL_DONE && lengths[2] == sizeof file);
+    CHECK(geopotential_model_write(one, one, GEOPOTENTIAL_TIDE_UNKNOWN, 0, 5, 0, c, 1, s, 1, file, lengths[2]) == GEOPOTENTIAL_DONE);
+    CHECK(geopotential_model_write(one, one, 4, 1, 5, 0, c, 1, s, 1, file, sizeof file) == GEOPOTENTIAL_TIDE);
     CHECK(geopotential_model_read_lengths(file, 20, lengths, LISTS) == GEOPOTENTIAL_DONE);
-    CHECK(lengths[0] == sizeof file && lengths[1] == 1 && lengths[2] == 1 && lengths[3] == 4);
+    CHECK(lengths[0] == sizeof file && lengths[1] == 1 && lengths[2] == 1 && lengths[3] == 6);
     c[0] = 7;
     CHECK(geopotential_model_read(file, sizeof file, c, lengths[1], s, lengths[2], head, lengths[3]) == GEOPOTENTIAL_DONE);
     CHECK(c[0] == one && s[0] == 0 && head[0] == one && head[1] == one && head[2] == GEOPOTENTIAL_TIDE_UNKNOWN && head[3] == 0);
-    CHECK(geopotential_model_read(file, 37, c, 1, s, 1, head, 4) == GEOPOTENTIAL_SHORT);
+    CHECK(head[4] == 0 && head[5] == 0);
+    CHECK(geopotential_model_read(file, 37, c, 1, s, 1, head, 6) == GEOPOTENTIAL_SHORT);
+    CHECK(geopotential_model_read(file, sizeof file, c, 1, s, 1, head, 5) == GEOPOTENTIAL_SPACE);
     file[0] = 2;
-    CHECK(geopotential_model_read_lengths(file, 20, lengths, LISTS) == GEOPOTENTIAL_KIND && lengths[3] == 4);
+    CHECK(geopotential_model_read_lengths(file, 20, lengths, LISTS) == GEOPOTENTIAL_KIND && lengths[3] == 6);
+    /* The same field of 1999-12-31: four bytes more, all ones. */
+    CHECK(geopotential_model_write_lengths(0, 7, lengths, LISTS) == GEOPOTENTIAL_DONE && lengths[2] == sizeof dated);
+    CHECK(geopotential_model_write(one, one, GEOPOTENTIAL_TIDE_UNKNOWN, 7, -1, 0, c, 1, s, 1, dated, lengths[2]) == GEOPOTENTIAL_DONE);
+    CHECK(dated[0] == 4 && dated[19] == 0 && dated[20] == 255 && dated[23] == 255 && dated[24] == 2);
+    CHECK(geopotential_model_read_lengths(dated, 24, lengths, LISTS) == GEOPOTENTIAL_DONE && lengths[0] == sizeof dated);
+    CHECK(geopotential_model_read_lengths(dated, 23, lengths, LISTS) == GEOPOTENTIAL_SHORT);
+    CHECK(geopotential_model_read(dated, sizeof dated, c, 1, s, 1, head, 6) == GEOPOTENTIAL_DONE);
+    CHECK(c[0] == one && s[0] == 0 && head[3] == 0 && head[4] == 1 && (int32_t)(uint32_t)head[5] == -1);
 }
 
 static void tables(void)

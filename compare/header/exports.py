@@ -9,7 +9,7 @@ import sys
 
 ROOT = pathlib.Path(__file__).resolve().parents[2]
 RUST = ["bindings/rust/src/ffi/entries.rs", "bindings/rust/src/ffi/lengths.rs", "compare/src/entries.rs"]
-NUMBERS = {"f64": "double", "usize": "size_t", "u8": "uint8_t", "u32": "uint32_t", "u64": "uint64_t"}
+NUMBERS = {"f64": "double", "usize": "size_t", "u8": "uint8_t", "u32": "uint32_t", "u64": "uint64_t", "i32": "int32_t"}
 
 
 def in_c(name, kind):

@@ -45,7 +45,7 @@ fn analyses(tally: &mut Tally, cases: &mut Cases) {
         let (x, w) = oracle::gauss_legendre(nmax + 1, &tricomi(nmax + 1));
         let pairs: Vec<(f64, f64)> = x.iter().map(|x| pair(x.asin())).collect();
         let oracle = oracle::Coefficients::analysis(&functional.oracle, r, &values, nmax, gm, size, &w, &pairs, &analysis_orders(nmax));
-        tally.call(field_fault(&ours, &oracle), || format!("{:?}, N {nmax}, gm, radius, r {:?}", functional.ours, [gm, size, r]));
+        tally.call(field_fault(&ours, &oracle, None), || format!("{:?}, N {nmax}, gm, radius, r {:?}", functional.ours, [gm, size, r]));
     }
 }
 

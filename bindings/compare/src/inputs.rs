@@ -54,6 +54,15 @@ impl Field {
     }
 }
 
+/// No date, or a count of days: about 0, at an end of its range, or any.
+pub fn date(cases: &mut Cases) -> Option<i32> {
+    match cases.below(4) {
+        0 => None,
+        1 => Some([0, 1, -1, i32::MIN, i32::MAX][cases.below(5) as usize]),
+        _ => Some(cases.bits() as i32),
+    }
+}
+
 /// One functional, on both sides.
 pub struct Functionals<'a> {
     pub ours: geopotential::Functional<'a>,
@@ -91,9 +100,12 @@ pub fn fault(name: &str, ours: &[f64], oracle: &[f64]) -> Option<String> {
     Some(format!("{name}[{at}]: ours {}, due {}", shown(ours[at]), shown(oracle[at])))
 }
 
-/// What is wrong with a field's head and lists.
-pub fn field_fault(ours: &geopotential::Coefficients, oracle: &oracle::Coefficients) -> Option<String> {
+/// What is wrong with a field's head and lists. The oracle's fields have no date: the one due is said apart.
+pub fn field_fault(ours: &geopotential::Coefficients, oracle: &oracle::Coefficients, date: Option<i32>) -> Option<String> {
     let nmax = oracle.max_degree();
+    if ours.date != date {
+        return Some(format!("date {:?}, due {date:?}", ours.date));
+    }
     if (ours.max_degree(), ours.tide_system as u8) != (nmax, oracle.tide_system as u8) {
         return Some(format!("degree {}, {:?}; due {nmax}, {:?}", ours.max_degree(), ours.tide_system, oracle.tide_system));
     }

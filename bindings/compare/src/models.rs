@@ -1,9 +1,9 @@
 //! Coefficients and factors.
 
-use geopotential::{TideSystem, model_file};
+use geopotential::{Coefficients, TideSystem, model_file};
 
 use crate::cases::Cases;
-use crate::inputs::{Field, Functionals, LARGE, degrees, fault, field_fault, love, radius};
+use crate::inputs::{Field, Functionals, LARGE, date, degrees, fault, field_fault, love, radius};
 use crate::tally::{Report, Tally};
 
 /// The random fields of a call.
@@ -11,7 +11,7 @@ const COUNT: u64 = 4_000;
 
 pub fn compare(report: &mut Report) {
     report.call("factor", factor);
-    report.call("zeros, set, c, s", |tally, cases| fields(tally, cases, |_, field| field_fault(&field.ours, &field.oracle)));
+    report.call("zeros, set, c, s", made);
     report.call("truncated", |tally, cases| fields(tally, cases, truncated));
     report.call("rescaled", |tally, cases| fields(tally, cases, rescaled));
     report.call("degree_variances", |tally, cases| fields(tally, cases, degree_variances));
@@ -19,13 +19,21 @@ pub fn compare(report: &mut Report) {
     report.call("model_file, there, back", |tally, cases| fields(tally, cases, model_file));
 }
 
-/// One call on each of the random fields.
+/// A field newly made has no date, and its tide system is the oracle's.
+fn made(tally: &mut Tally, cases: &mut Cases) {
+    for nmax in degrees(cases, COUNT, &LARGE) {
+        let field = Field::random(cases, nmax);
+        tally.call(field_fault(&field.ours, &field.oracle, None), || format!("degree {nmax}"));
+    }
+}
+
+/// One call on each of the random fields, with dates and without.
 fn fields(tally: &mut Tally, cases: &mut Cases, call: fn(&mut Cases, &Field) -> Option<String>) {
     for nmax in degrees(cases, COUNT, &LARGE) {
         let mut field = Field::random(cases, nmax);
-        field.ours.tide_system = TideSystem::MeanTide;
+        (field.ours.tide_system, field.ours.date) = (TideSystem::MeanTide, date(cases));
         field.oracle.tide_system = oracle::TideSystem::MeanTide;
-        tally.call(call(cases, &field), || format!("degree {nmax}"));
+        tally.call(call(cases, &field), || format!("degree {nmax}, date {:?}", field.ours.date));
     }
 }
 
@@ -44,12 +52,12 @@ fn factor(tally: &mut Tally, cases: &mut Cases) {
 fn truncated(cases: &mut Cases, field: &Field) -> Option<String> {
     let nmax = field.oracle.max_degree();
     let cut = [0, nmax / 2, nmax.saturating_sub(1), nmax, nmax + 1, usize::MAX][cases.below(6) as usize];
-    field_fault(&field.ours.truncated(cut), &field.oracle.truncated(cut))
+    field_fault(&field.ours.truncated(cut), &field.oracle.truncated(cut), field.ours.date)
 }
 
 fn rescaled(cases: &mut Cases, field: &Field) -> Option<String> {
     let (gm, radius) = (cases.number(), radius(cases, field));
-    field_fault(&field.ours.rescaled(gm, radius), &field.oracle.rescaled(gm, radius))
+    field_fault(&field.ours.rescaled(gm, radius), &field.oracle.rescaled(gm, radius), field.ours.date)
 }
 
 fn degree_variances(_: &mut Cases, field: &Field) -> Option<String> {
@@ -64,10 +72,26 @@ fn degree_amplitudes(cases: &mut Cases, field: &Field) -> Option<String> {
 
 /// The published crate has no model file: what is written must be read as the same field, and written again as the same bytes.
 fn model_file(_: &mut Cases, field: &Field) -> Option<String> {
-    let bytes = model_file::write(&field.ours).ok()?;
-    match model_file::read(&bytes) {
-        Err(refusal) => Some(refusal.to_string()),
-        Ok(again) if model_file::write(&again).as_ref() != Ok(&bytes) => Some("other bytes".to_string()),
-        Ok(again) => field_fault(&again, &field.oracle),
+    there_and_back(field).err()
+}
+
+fn there_and_back(field: &Field) -> Result<(), String> {
+    let written = |field: &Coefficients| model_file::write(field).map_err(|refusal| format!("written: {refusal}"));
+    let (ours, mut undated) = (&field.ours, field.ours.clone());
+    undated.date = None;
+    let (bytes, plain) = (written(ours)?, written(&undated)?);
+    let again = model_file::read(&bytes).map_err(|refusal| format!("read: {refusal}"))?;
+    let (kind, days) = ours.date.map_or((1, vec![]), |days| (4, days.to_le_bytes().to_vec()));
+    // A field with a NaN equals nothing, not even itself. The published `==` looks at all that a field has, so ours looks at the date too.
+    let equal = field.oracle == field.oracle.clone();
+    let checks = [
+        (bytes == [&[kind][..], &plain[1..20], &days, &plain[20..]].concat(), "the file has more than the date beside the undated one"),
+        (written(&again)? == bytes, "other bytes where it is written again"),
+        ((again == *ours) == equal, "== with what is read"),
+        ((undated == *ours) == (equal && ours.date.is_none()), "== with its copy without a date"),
+    ];
+    match checks.iter().find(|(holds, _)| !holds) {
+        Some((_, what)) => Err(what.to_string()),
+        None => field_fault(&again, &field.oracle, ours.date).map_or(Ok(()), Err),
     }
 }

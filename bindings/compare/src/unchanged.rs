@@ -1,6 +1,7 @@
-//! The same program, compiled against the bindings and against the published crate with its files unchanged. Of these calls
-//! document 01's stand-ins touch one bit: a sum of a grid starts at +0.0, so a zero may have another sign. Solver and caps have
-//! another `hypot` and are left to the oracle.
+//! The same program, compiled against the bindings and against the published crate with its files unchanged. It names no date, which
+//! the published type has not: its fields have none, and `==` answers as published. Of these calls document 01's stand-ins touch one
+//! bit: a sum of a grid starts at +0.0, so a zero may have another sign. Solver and caps have another `hypot` and are left to the
+//! oracle.
 
 use crate::cases::Cases;
 use crate::inputs::{angles, fault};
@@ -74,6 +75,14 @@ macro_rules! program {
                 field.degree_variances().into_iter().chain(amplitudes).chain(changed.iter().flat_map(numbers)).collect()
             }
 
+            /// `==` of a field with its copy, with the field cut, with the field rescaled to its own head, and of two that are newly made.
+            pub fn equality(input: &Input) -> Vec<f64> {
+                let field = field(input);
+                let [cut, rescaled] = [field.truncated(input.cut), field.rescaled(input.gm, input.radius)];
+                let zeros = || Coefficients::zeros(input.gm, input.radius, input.nmax);
+                [field == field.clone(), field == cut, field == rescaled, zeros() == zeros()].map(f64::from).to_vec()
+            }
+
             pub fn legendre(input: &Input) -> Vec<f64> {
                 let mut leg = Legendre::new(input.nmax);
                 let mut out = Vec::new();
@@ -127,6 +136,7 @@ type Program = fn(&Input) -> Vec<f64>;
 const PARTS: &[(&str, Program, Program)] = &[
     ("factor", ours::factor, theirs::factor),
     ("coefficients", ours::coefficients, theirs::coefficients),
+    ("equality", ours::equality, theirs::equality),
     ("legendre", ours::legendre, theirs::legendre),
     ("gauss rules, grids", ours::rules, theirs::rules),
     ("grid", ours::grid, theirs::grid),

@@ -108,12 +108,6 @@ const TOLD: &[Told] = &[
         limits: DEGREE,
         due: |s| [tables::<2>(s), vec![rows(s[0]); 2]].concat(),
     },
-    Told {
-        name: "model_write",
-        entry: One(geopotential_model_write_lengths),
-        limits: DEGREE,
-        due: |s| [tables::<2>(s), vec![21 + 17 * pairs(s[0])]].concat(),
-    },
     Told { name: "legendre_new", entry: One(geopotential_legendre_new_lengths), limits: DEGREE, due: tables::<2> },
     Told { name: "legendre_compute", entry: One(geopotential_legendre_compute_lengths), limits: DEGREE, due: tables::<3> },
     Told {
@@ -148,6 +142,7 @@ const TOLD: &[Told] = &[
 
 pub fn compare(report: &mut Report) {
     report.call("lengths", |tally, _| TOLD.iter().for_each(|told| all_sizes(tally, told)));
+    report.call("lengths of model_write", |tally, _| written(tally));
     report.call("lengths of model_read", heads);
 }
 
@@ -190,36 +185,68 @@ fn one(tally: &mut Tally, name: &str, due: Result<&[u128], u32>, call: impl Fn(&
     }
 }
 
-/// The lengths of a model file's lists by its first bytes.
-fn due_of_head(bytes: &[u8]) -> Result<Vec<u128>, u32> {
-    match bytes {
-        [] => Err(SHORT),
-        [kind, ..] if *kind != 1 => Err(KIND),
-        _ if bytes.len() < 20 => Err(SHORT),
-        _ if bytes[17] > 3 => Err(TIDE),
-        _ => {
-            let nmax = u16::from_le_bytes([bytes[18], bytes[19]]) as usize;
+/// Every degree with numbers that state a date, and with 0, which states none.
+fn written(tally: &mut Tally) {
+    for nmax in sizes_about(MAX_DEGREE) {
+        for dated in [0, 1, 2, 7, 256, 65_536, 1 << 31, u32::MAX] {
             let t = pairs(nmax);
-            if nmax > MAX_DEGREE { Err(SIZE) } else { Ok(vec![21 + 17 * t, t, t, 4]) }
+            let due = if nmax > MAX_DEGREE { Err(SIZE) } else { Ok([t, t, 17 * t + if dated == 0 { 21 } else { 25 }]) };
+            let call =
+                |lengths: &mut Guarded<usize>| unsafe { geopotential_model_write_lengths(nmax, dated, lengths.pointer(), lengths.len()) };
+            one(tally, "model_write", due.as_ref().map(|due| &due[..]).map_err(|&refusal| refusal), call, || {
+                format!("{nmax}, dated {dated}")
+            });
         }
     }
 }
 
+/// The lengths of a model file's lists by its first bytes.
+fn due_of_head(bytes: &[u8]) -> Result<Vec<u128>, u32> {
+    let length = match bytes {
+        [] => return Err(SHORT),
+        [1, ..] => 20,
+        [4, ..] => 24,
+        _ => return Err(KIND),
+    };
+    if bytes.len() < length {
+        return Err(SHORT);
+    }
+    if bytes[17] > 3 {
+        return Err(TIDE);
+    }
+    let nmax = u16::from_le_bytes([bytes[18], bytes[19]]) as usize;
+    let t = pairs(nmax);
+    if nmax > MAX_DEGREE { Err(SIZE) } else { Ok(vec![length as u128 + 17 * t + 1, t, t, 6]) }
+}
+
+/// A head by both.
+fn head(tally: &mut Tally, bytes: &[u8]) {
+    let due = due_of_head(bytes);
+    let mut file = Guarded::of(bytes, bytes.len());
+    let (pointer, length) = (file.pointer(), file.len());
+    let call = |lengths: &mut Guarded<usize>| unsafe { geopotential_model_read_lengths(pointer, length, lengths.pointer(), lengths.len()) };
+    one(tally, "model_read", due.as_deref().map_err(|&refusal| refusal), call, || format!("{bytes:x?}"));
+}
+
 fn heads(tally: &mut Tally, cases: &mut Cases) {
-    for _ in cases.times(40_000) {
+    // Heads of both kinds and of others, of every length about theirs, with tides and degrees that pass or don't.
+    for kind in 0..=5 {
+        for (tide, nmax) in [0, 3, 4, 255].into_iter().flat_map(|tide| [0u16, 2, 2700, 2701, 65_535].map(|nmax| (tide, nmax))) {
+            let mut bytes: Vec<u8> = (0..40).map(|_| cases.below(256) as u8).collect();
+            (bytes[0], bytes[17]) = (kind, tide);
+            bytes[18..20].copy_from_slice(&nmax.to_le_bytes());
+            (0..=26).for_each(|length| head(tally, &bytes[..length]));
+        }
+    }
+    for _ in cases.times(80_000) {
         let mut bytes: Vec<u8> = (0..cases.below(40)).map(|_| cases.below(256) as u8).collect();
         if let Some(kind) = bytes.first_mut().filter(|_| cases.below(8) > 0) {
-            *kind = 1;
+            *kind = [1, 4][cases.below(2) as usize];
         }
         if bytes.len() >= 20 && cases.below(8) > 0 {
             bytes[17] = cases.below(5) as u8;
             bytes[18..20].copy_from_slice(&(cases.below(2800) as u16).to_le_bytes());
         }
-        let due = due_of_head(&bytes);
-        let mut file = Guarded::of(&bytes, bytes.len());
-        let (pointer, length) = (file.pointer(), file.len());
-        let call =
-            |lengths: &mut Guarded<usize>| unsafe { geopotential_model_read_lengths(pointer, length, lengths.pointer(), lengths.len()) };
-        one(tally, "model_read", due.as_deref().map_err(|&refusal| refusal), call, || format!("{bytes:x?}"));
+        head(tally, &bytes);
     }
 }

@@ -2,10 +2,10 @@
 //! one refused is that of the table.
 
 use super::fields::{ANALYSIS, GRID};
-use super::files::{WRITE, model};
+use super::files::{DATE, WRITE, WRITE_DATED, model};
 use super::{Call, Input, Love, Output, Value, Work, constants, distinct, front, title};
 use crate::constants::bytes;
-use crate::model_file::format::{Model, file, file_length, read};
+use crate::model_file::format::{HEAD_WORDS, Model, file, read};
 use crate::refusal::{SPACE, TIDE, pairs};
 
 /// The columns of a case.
@@ -46,48 +46,72 @@ const PARTIALS: Call = Call {
     },
 };
 
-/// N, the tide, and the lengths of c, s and of the bytes. A tide above 3 comes before every check.
+/// N, the tide, the lengths of c, s and of the bytes, and `dated`. A tide above 3 comes before every check.
 fn model_write() -> String {
-    let mut cases: Vec<(u32, super::Case)> = (0..=4).chain([5, 255, 256, u32::MAX]).map(|tide| (tide, WRITE.stated(&[0]))).collect();
-    for tide in [3, 4] {
-        for (nmax, lengths) in [(2701, [1, 1, 38]), (0, [0, 1, 38]), (0, [1, 0, 38]), (0, [1, 1, 37]), (2701, [0, 0, 0])] {
-            cases.push((tide, super::Case { sizes: vec![nmax], functional: None, lengths: lengths.to_vec() }));
-        }
-        cases.extend(WRITE.two_lists().into_iter().map(|case| (tide, case)));
-    }
     let (mut rows, mut dues) = (Vec::new(), Vec::new());
-    for (tide, case) in distinct(cases) {
-        let due = if tide > 3 { TIDE } else { WRITE.due(&case) };
-        let sizes = [case.sizes[0] as u64, tide as u64].into_iter();
-        rows.push(sizes.chain(case.lengths.iter().map(|&length| length as u64)).collect::<Vec<u64>>());
-        dues.push([due as u64, if due == 0 { front(0, 38) } else { 0 }]);
+    for (call, dated) in [(WRITE, 0), (WRITE_DATED, 1), (WRITE_DATED, 2), (WRITE_DATED, 1 << 31), (WRITE_DATED, u32::MAX)] {
+        for (tide, case) in writes(&call, dated < 2) {
+            let due = if tide > 3 { TIDE } else { call.due(&case) };
+            let sizes = [case.sizes[0] as u64, tide as u64].into_iter();
+            let lengths = case.lengths.iter().map(|&length| length as u64);
+            rows.push(sizes.chain(lengths).chain([dated as u64]).collect::<Vec<u64>>());
+            dues.push([due as u64, if due == 0 { front(0, call.stated(&[0]).lengths[2] as u64) } else { 0 }]);
+        }
     }
     constants("model_write", WIDTH, &rows, &dues)
 }
 
-/// A copy of the file: the length kept, the tide's byte; then the lengths of c, s and of the head's words.
+/// Tides with the sizes and lengths of a call, a few of them where not all are asked for.
+fn writes(call: &Call, all: bool) -> Vec<(u32, super::Case)> {
+    let stated = || call.stated(&[0]);
+    let bytes = stated().lengths[2];
+    let short = |nmax, lengths: [usize; 3]| super::Case { sizes: vec![nmax], functional: None, lengths: lengths.to_vec() };
+    if !all {
+        return vec![(0, stated()), (3, short(0, [1, 1, bytes - 1]))];
+    }
+    let mut cases: Vec<(u32, super::Case)> = (0..=4).chain([5, 255, 256, u32::MAX]).map(|tide| (tide, stated())).collect();
+    for tide in [3, 4] {
+        for (nmax, c, s, out) in [(2701, 1, 1, bytes), (0, 0, 1, bytes), (0, 1, 0, bytes), (0, 1, 1, bytes - 1), (2701, 0, 0, 0)] {
+            cases.push((tide, short(nmax, [c, s, out])));
+        }
+        cases.extend(call.two_lists().into_iter().map(|case| (tide, case)));
+    }
+    distinct(cases)
+}
+
+/// A copy of a file: the length kept, the tide's byte; then the lengths of c, s and of the head's words; 1 for the file with a date.
 fn model_read() -> String {
-    let whole = file(&model());
-    let length = file_length(1);
-    let mut cases: Vec<[usize; 5]> = [3, 4, 5, 0].map(|head| [length, 2, 3, 3, head]).to_vec();
-    cases.extend([[length, 2, 2, 3, 4], [length, 2, 3, 2, 4], [length, 2, 2, 2, 3], [length, 0, 4, 4, 4], [length, 3, 4, 4, 4]]);
-    // The file's own mistakes come first, before each list.
-    cases.extend([[length, 4, 3, 3, 3], [length - 1, 2, 3, 3, 3], [0, 2, 2, 2, 0], [19, 4, 3, 3, 3], [20, 4, 3, 3, 3]]);
-    for (kept, tide) in [(length, 4), (length - 1, 2)] {
-        cases.extend([[kept, tide, 2, 3, 4], [kept, tide, 3, 2, 4]]);
-    }
+    let files = [None, DATE].map(|date| file(&model(date)));
     let (mut rows, mut dues) = (Vec::new(), Vec::new());
-    for case in distinct(cases) {
-        let mut bytes = whole.clone();
-        bytes[17] = case[1] as u8;
-        let due = match read(&bytes[..case[0]], &mut Model::default()) {
-            Ok(()) if case[2] < 3 || case[3] < 3 || case[4] < 4 => SPACE,
-            other => other.err().unwrap_or(0),
-        };
-        rows.push(case.map(|x| x as u64).to_vec());
-        dues.push([due as u64, if due == 0 { front(0, 3) + front(1, 3) + front(2, 4) } else { 0 }]);
+    for (dated, whole) in files.iter().enumerate() {
+        for case in reads(whole.len()) {
+            let mut bytes = whole.clone();
+            bytes[17] = case[1] as u8;
+            let due = match read(&bytes[..case[0]], &mut Model::default()) {
+                Ok(()) if case[2] < 3 || case[3] < 3 || case[4] < HEAD_WORDS => SPACE,
+                other => other.err().unwrap_or(0),
+            };
+            rows.push(case.into_iter().chain([dated]).map(|x| x as u64).collect());
+            dues.push([due as u64, if due == 0 { front(0, 3) + front(1, 3) + front(2, HEAD_WORDS as u64) } else { 0 }]);
+        }
     }
-    bytes("the file that is read", "FILE", &whole) + &constants("model_read", WIDTH, &rows, &dues)
+    let [undated, dated] = files;
+    bytes("the file that is read, and as many bytes behind it as the other has", "FILE", &[&undated[..], &[0; 4]].concat())
+        + &bytes("the file with a date", "DATED_FILE", &dated)
+        + &constants("model_read", WIDTH, &rows, &dues)
+}
+
+/// The first five columns, of a file of this length.
+fn reads(length: usize) -> Vec<[usize; 5]> {
+    let mut cases: Vec<[usize; 5]> = [3, 4, 5, 6, 7, 0].map(|head| [length, 2, 3, 3, head]).to_vec();
+    cases.extend([[length, 2, 2, 3, 6], [length, 2, 3, 2, 6], [length, 2, 2, 2, 5], [length, 0, 4, 4, 6], [length, 3, 4, 4, 6]]);
+    // The file's own mistakes come first, before each list.
+    cases.extend([[length, 4, 3, 3, 5], [length - 1, 2, 3, 3, 5], [0, 2, 2, 2, 0]]);
+    cases.extend([19, 20, 23, 24].map(|kept| [kept, 4, 3, 3, 5]));
+    for (kept, tide) in [(length, 4), (length - 1, 2)] {
+        cases.extend([[kept, tide, 2, 3, 6], [kept, tide, 3, 2, 6]]);
+    }
+    distinct(cases)
 }
 
 /// Three numbers to a list, whose length is the only column.

@@ -116,5 +116,5 @@ pub fn replay() -> String {
     let calls = [GRID, BASIN_AVERAGE, PARTIALS, PARTIALS_ALONG, ANALYSIS, eigen("symmetric_eigen"), eigen("householder_ql"), POLAR_CAP];
     calls.iter().for_each(|call| text += &call.constants(WIDTH));
     let (gm, radius) = (3.5f64.to_bits(), 7.25f64.to_bits());
-    text + &heads("heads of analysed models: gm, radius, tide and N", &[[gm, radius, 3, 0], [gm, radius, 3, 1]])
+    text + &heads("heads of analysed models: gm, radius, tide, N and date", &[[gm, radius, 3, 0, 0], [gm, radius, 3, 1, 0]])
 }

@@ -217,8 +217,16 @@ fn constants(name: &str, width: usize, rows: &[Vec<u64>], dues: &[[u64; 2]]) -> 
         + &array("due of each: the refusal, and what changes", &format!("{title}_DUE"), &due)
 }
 
-/// Heads of made models, four words each.
-fn heads(comment: &str, heads: &[[u64; 4]]) -> String {
+/// The counts of days that the programs know: 2000-01-01, its neighbours, 2024-03-15, both ends of 32 bits, and two with four different bytes.
+pub const DAYS: [i32; 8] = [0, 1, -1, 8840, i32::MAX, i32::MIN, 0x0102_0304, 0x89ab_cdef_u32 as i32];
+
+/// A date as the programs tell it: 0 for none, else the place of its count among those that they know, from 1 on.
+pub fn date_number(date: Option<i32>) -> u64 {
+    date.map_or(0, |days| 1 + DAYS.iter().position(|&known| known == days).expect("a count that the programs know") as u64)
+}
+
+/// Heads of made models, five words each.
+fn heads(comment: &str, heads: &[[u64; 5]]) -> String {
     array(comment, "HEADS", &heads.iter().flatten().map(|&word| hexadecimal(word)).collect::<Vec<_>>())
 }
 

@@ -87,16 +87,16 @@ fn entries(name: &str, tables: usize, changed: impl Fn(u64) -> u64) -> String {
     constants(name, WIDTH, &rows, &dues)
 }
 
-/// The head of zeros, of a field that is cut, of one that is rescaled: gm, radius, tide, N.
+/// The head of zeros, of a field that is cut, of one that is rescaled: gm, radius, tide, N, date.
 fn models() -> String {
     let (gm, radius) = (3.5f64.to_bits(), 7.25f64.to_bits());
     let (new_gm, new_radius) = (2.5f64.to_bits(), 1.75f64.to_bits());
-    let mut list = vec![[gm, radius, 3, 0], [gm, radius, 3, 1]];
-    for (tide, cut) in [(0, 0), (1, 0), (2, 0), (3, 0), (0, 1), (1, 2), (2, 2701)] {
-        list.push([gm, radius, tide, cut.min(1)]);
+    let mut list = vec![[gm, radius, 3, 0, 0], [gm, radius, 3, 1, 0]];
+    for (tide, cut, date) in [(0, 0, 0), (1, 0, 1), (2, 0, 3), (3, 0, 6), (0, 1, 4), (1, 2, 5), (2, 2701, 0)] {
+        list.push([gm, radius, tide, cut.min(1), date]);
     }
-    list.extend([0, 1, 2, 3].map(|tide| [new_gm, new_radius, tide, 1]));
-    heads("heads of made models: gm, radius, tide and N of zeros, of fields that are cut, of fields that are rescaled", &list)
+    list.extend([(0, 0), (1, 1), (2, 8), (3, 6)].map(|(tide, date)| [new_gm, new_radius, tide, 1, date]));
+    heads("heads of made models: gm, radius, tide, N and date of zeros, of fields that are cut, of fields that are rescaled", &list)
 }
 
 pub fn replay() -> String {
