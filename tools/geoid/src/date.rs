@@ -2,10 +2,12 @@
 
 use std::fmt;
 
+use crate::day::Day;
+
 /// Days of a year where a rate is given for a year.
 const YEAR: f64 = 365.25;
 /// The years that a date may have: a number outside is a mistake, no epoch of a gravity field.
-const YEARS: std::ops::RangeInclusive<i64> = 1800..=2200;
+const YEARS: std::ops::RangeInclusive<i32> = 1800..=2200;
 
 /// The modified Julian date of 2000-01-01.
 const MJD_2000: f64 = 51_544.0;
@@ -19,43 +21,56 @@ pub struct Date {
 impl Date {
     /// The date of an option's value: `YYYY-MM-DD` or a decimal year.
     pub fn parse(text: &str) -> Result<Date, String> {
-        let expected = || format!("'{text}' is no date; expected YYYY-MM-DD or a decimal year such as 2010.5");
-        let parts: Vec<&str> = text.split('-').collect();
-        match parts[..] {
-            [year, month, day] => civil(whole(year, 4), whole(month, 2), whole(day, 2)).ok_or_else(expected),
-            [year] => decimal(year).ok_or_else(expected),
-            _ => Err(expected()),
-        }
+        let date = if text.contains('-') { Day::parse(text).and_then(of_day) } else { decimal(text) };
+        date.ok_or_else(|| format!("'{text}' is no date{}", Day::fault(text, "YYYY-MM-DD or a decimal year such as 2010.5")))
     }
 
     /// The date of ICGEM's and GRACE's lines: `yyyymmdd` or `yyyymmdd.hhmm`.
     pub fn compact(text: &str) -> Result<Date, String> {
         let (day, clock) = text.split_once('.').unwrap_or((text, "0000"));
-        let part = |from: usize, to: usize| day.get(from..to).and_then(|digits| whole(digits, to - from));
-        let date = if day.len() == 8 { civil(part(0, 4), part(4, 6), part(6, 8)) } else { None };
+        let part = |from: usize, to: usize| day.get(from..to).unwrap_or("");
+        let date = if day.len() == 8 { Day::parse(&[part(0, 4), part(4, 6), part(6, 8)].join("-")).and_then(of_day) } else { None };
         match (date, minutes(clock)) {
-            (Some(date), Some(minutes)) => Ok(Date { days: date.days + minutes / 1440.0 }),
+            (Some(date), Some(minutes)) => Ok(date.after(minutes)),
             _ => Err(format!("'{text}' is no date; expected yyyymmdd or yyyymmdd.hhmm")),
         }
     }
 
+    /// The date of GRACE's heads, `YYYY-MM-DDThh:mm:ss` with or without a `Z` behind it, to the nearest minute: 23:59:59.999 is the end
+    /// of its day.
+    pub fn stamp(text: &str) -> Option<Date> {
+        let (day, clock) = text.strip_suffix('Z').unwrap_or(text).split_once('T')?;
+        let (clock, seconds) = clock.rsplit_once(':')?;
+        let seconds: f64 = seconds.parse().ok().filter(|seconds| (0.0..60.0).contains(seconds))?;
+        let minutes = minutes(&clock.replace(':', ""))?;
+        Day::parse(day).and_then(of_day).map(|date| date.after(minutes + (seconds / 60.0).round()))
+    }
+
     /// The first day of a month, `YYYY-MM`, and that of the next.
     pub fn month(text: &str) -> Option<(Date, Date)> {
-        let (year, month) = text.split_once('-')?;
-        let (year, month) = (whole(year, 4)?, whole(month, 2)?);
-        let first = civil(Some(year), Some(month), Some(1))?;
-        Some((first, Date { days: first.days + month_length(year, month) as f64 }))
+        let first = Day::parse(&format!("{text}-01"))?;
+        Some((of_day(first)?, of_count(first.next_month().count())))
+    }
+
+    /// The middle of a day, counted from 2000-01-01.
+    pub fn noon(days: i32) -> Date {
+        Date { days: f64::from(days) + 0.5 }
     }
 
     /// The date of a modified Julian date.
     pub fn of_mjd(mjd: f64) -> Result<Date, String> {
         let days = mjd - MJD_2000;
-        let reach = day_number(*YEARS.start(), 1, 1) as f64..day_number(YEARS.end() + 1, 1, 1) as f64;
-        if reach.contains(&days) {
+        let [first, behind] = [*YEARS.start(), YEARS.end() + 1].map(|year| Day::new_year(year).count() as f64);
+        if (first..behind).contains(&days) {
             Ok(Date { days })
         } else {
             Err(format!("{mjd} is no modified Julian date of a day in the years {YEARS:?}"))
         }
+    }
+
+    /// The day that it lies in, counted from 2000-01-01.
+    pub fn days(&self) -> i32 {
+        self.days.floor() as i32
     }
 
     /// The moment half way to another.
@@ -72,6 +87,10 @@ impl Date {
     pub fn years_since(&self, other: Date) -> f64 {
         self.days_since(other) / YEAR
     }
+
+    fn after(&self, minutes: f64) -> Date {
+        Date { days: self.days + minutes / 1440.0 }
+    }
 }
 
 /// A whole number of so many digits.
@@ -86,56 +105,31 @@ fn minutes(clock: &str) -> Option<f64> {
     (hours <= 24 && minutes < 60).then_some((60 * hours + minutes) as f64)
 }
 
-fn civil(year: Option<i64>, month: Option<i64>, day: Option<i64>) -> Option<Date> {
-    let (year, month, day) = (year?, month?, day?);
-    let fits = YEARS.contains(&year) && (1..=12).contains(&month) && (1..=month_length(year, month)).contains(&day);
-    fits.then(|| Date { days: day_number(year, month, day) as f64 })
+/// The beginning of a day in one of the years that a date may have.
+fn of_day(day: Day) -> Option<Date> {
+    let reach = i64::from(*YEARS.start())..=i64::from(*YEARS.end());
+    reach.contains(&day.year()).then(|| of_count(day.count()))
+}
+
+fn of_count(days: i64) -> Date {
+    Date { days: days as f64 }
 }
 
 /// A decimal year: its fraction is that of the year's own days.
 fn decimal(text: &str) -> Option<Date> {
     let plain = text.bytes().all(|byte| byte.is_ascii_digit() || byte == b'.');
-    let year: f64 = text.parse().ok().filter(|year: &f64| plain && YEARS.contains(&(*year as i64)))?;
-    let whole = year as i64;
-    let (start, end) = (day_number(whole, 1, 1), day_number(whole + 1, 1, 1));
+    let year: f64 = text.parse().ok().filter(|year: &f64| plain && YEARS.contains(&(*year as i32)))?;
+    let whole = year as i32;
+    let (start, end) = (Day::new_year(whole).count(), Day::new_year(whole + 1).count());
     Some(Date { days: start as f64 + year.fract() * (end - start) as f64 })
-}
-
-fn is_leap(year: i64) -> bool {
-    year % 4 == 0 && (year % 100 != 0 || year % 400 == 0)
-}
-
-fn month_length(year: i64, month: i64) -> i64 {
-    match month {
-        2 => 28 + i64::from(is_leap(year)),
-        4 | 6 | 9 | 11 => 30,
-        _ => 31,
-    }
-}
-
-/// Days since 2000-01-01 of a date in the Gregorian calendar.
-fn day_number(year: i64, month: i64, day: i64) -> i64 {
-    let before = |year: i64| 365 * year + year.div_euclid(4) - year.div_euclid(100) + year.div_euclid(400);
-    let months: i64 = (1..month).map(|month| month_length(year, month)).sum();
-    before(year - 1) - before(1999) + months + day - 1
 }
 
 impl fmt::Display for Date {
     /// `YYYY-MM-DD`, with the clock's hours and minutes where it is not midnight.
     fn fmt(&self, f: &mut fmt::Formatter<'_>) -> fmt::Result {
         let minutes = (self.days * 1440.0).round() as i64;
-        let (mut day, clock) = (minutes.div_euclid(1440), minutes.rem_euclid(1440));
-        let (mut year, mut month) = (YEARS.start().to_owned(), 1);
-        day -= day_number(year, 1, 1);
-        while day >= 365 + i64::from(is_leap(year)) {
-            day -= 365 + i64::from(is_leap(year));
-            year += 1;
-        }
-        while day >= month_length(year, month) {
-            day -= month_length(year, month);
-            month += 1;
-        }
-        write!(f, "{year:04}-{month:02}-{:02}", day + 1)?;
+        let (day, clock) = (minutes.div_euclid(1440), minutes.rem_euclid(1440));
+        write!(f, "{}", Day::of_count(day))?;
         if clock == 0 { Ok(()) } else { write!(f, "T{:02}:{:02}", clock / 60, clock % 60) }
     }
 }
@@ -191,6 +185,38 @@ mod tests {
         assert_eq!(month("2011-12").as_deref(), Some("2011-12-01 2012-01-01"));
         for wrong in ["2008", "2008-4", "2008-13", "08-04", "2008-04-01", "-", ""] {
             assert_eq!(month(wrong), None, "{wrong}");
+        }
+    }
+
+    #[test]
+    fn stamps_are_taken_to_the_minute() {
+        for (text, expected) in [
+            ("2018-06-01T00:00:00.000", "2018-06-01"),
+            ("2018-06-30T23:59:59.999", "2018-07-01"),
+            ("2018-06-30T23:59:59", "2018-07-01"),
+            ("2018-06-30T24:00:00", "2018-07-01"),
+            ("2018-06-01T00:00:00Z", "2018-06-01"),
+            ("2018-06-30T23:59:59.999Z", "2018-07-01"),
+            ("2018-06-16T11:59:29.9", "2018-06-16T11:59"),
+        ] {
+            assert_eq!(Date::stamp(text).unwrap().to_string(), expected);
+        }
+        for wrong in ["2018-06-31T00:00:00", "2018-06-30", "2018-06-30T", "2018-06-30T25:00:00", "2018-06-30T12:00:60", "T::", "", "soon"] {
+            assert_eq!(Date::stamp(wrong), None, "{wrong}");
+        }
+        for wrong in ["2018-06-30Z", "2018-06-30T12:00:00ZZ", "2018-06-30T12:00:00 Z", "Z"] {
+            assert_eq!(Date::stamp(wrong), None, "{wrong}");
+        }
+    }
+
+    #[test]
+    fn a_moment_lies_in_its_day() {
+        for (text, days) in [("2000-01-01", 0), ("1999-12-31", -1), ("2004.5", 4 * 365 + 1 + 183), ("1999.9999", -1), ("2024-03-15", 8840)]
+        {
+            assert_eq!(Date::parse(text).unwrap().days(), days, "{text}");
+        }
+        for days in [i32::MIN, -1, 0, 8840, i32::MAX] {
+            assert_eq!((Date::noon(days).days(), Date::noon(days).to_string()), (days, format!("{}T12:00", Day::of_count(days.into()))));
         }
     }
 

@@ -5,6 +5,7 @@ use std::path::Path;
 use geopotential::{Coefficients, MAX_DEGREE, RHO_EARTH, RHO_WATER, TideSystem};
 
 use crate::arguments::{Arguments, Opt};
+use crate::dating::shown;
 use crate::error::Error;
 use crate::output::note;
 
@@ -84,11 +85,13 @@ impl Matching {
         }
     }
 
-    /// The first field less the second, which the library expresses with the first one's GM and radius.
+    /// The first field less the second, which the library expresses with the first one's GM and radius. It is no month's field:
+    /// it has no date.
     pub fn subtract(&self, first: Named, second: Named) -> Result<Coefficients, Error> {
         self.check_tides(first, second)?;
         let degree = self.degree(first, second)?;
         let mut rest = first.field.truncated(degree);
+        rest.date = None;
         let other = second.field.truncated(degree).rescaled(rest.gm, rest.radius);
         for n in 0..=degree {
             for m in 0..=n {
@@ -101,6 +104,15 @@ impl Matching {
         }
         Ok(rest)
     }
+}
+
+/// Of which days the two fields of a difference are, if one of them has a date.
+pub fn dates_line(first: &Coefficients, second: &Coefficients) -> Option<String> {
+    let of = |date: i32| format!("of {}", shown(date));
+    let without = || "of no stated date".to_string();
+    let stated = first.date.or(second.date).is_some();
+    let [first, second] = [first, second].map(|field| field.date.map_or_else(without, of));
+    stated.then(|| format!("a field {first} less one {second}"))
 }
 
 /// Two centres' GM are two conventions, but their difference looks like a mass of its own, spread over the globe.

@@ -8,32 +8,16 @@ use std::fmt;
 use std::path::Path;
 
 use crate::date::Date;
+use crate::dating::shown;
+use crate::day::Day;
 use crate::error::Error;
 use crate::gfc::number;
 use crate::output::read_whole;
+use crate::span::Span;
 use crate::text::{Fault, decoded};
 
 /// Solutions that overlap have middles two weeks apart: a field's own days and those of its solution have middles closer than this.
 const NEAR_DAYS: f64 = 7.0;
-
-/// The days of a solution: the first, and the one behind the last.
-#[derive(Clone, Copy, Debug, PartialEq)]
-pub struct Span {
-    pub from: Date,
-    pub to: Date,
-}
-
-impl Span {
-    /// The moment half way from its first day to its end.
-    pub fn middle(&self) -> Date {
-        self.from.half_way_to(self.to)
-    }
-
-    /// Its days in words.
-    pub fn line(&self) -> String {
-        format!("{} to {}", self.from, self.to)
-    }
-}
 
 /// A coefficient pair of a solution.
 #[derive(Clone, Copy, Debug, PartialEq)]
@@ -52,8 +36,10 @@ pub enum When {
     Month(Date, Date),
     /// The one in which a day lies.
     Day(Date),
-    /// The one of about the same days.
+    /// The one of about the same days as a field.
     Like(Span),
+    /// The one about the date of a field: the day in the middle of its own days.
+    Dated(i32),
 }
 
 impl When {
@@ -61,16 +47,41 @@ impl When {
     pub fn parse(text: &str) -> Result<When, Error> {
         let day = || Date::parse(text).ok().filter(|_| text.contains('-')).map(When::Day);
         let when = Date::month(text).map(|(first, next)| When::Month(first, next)).or_else(day);
-        when.ok_or_else(|| Error::usage(format!("--month is '{text}'; expected YYYY-MM, or a day YYYY-MM-DD")))
+        let day = if text.matches('-').count() == 1 { format!("{text}-01") } else { text.to_string() };
+        when.ok_or_else(|| Error::usage(format!("--month is '{text}'{}", Day::fault(&day, "YYYY-MM, or a day YYYY-MM-DD"))))
     }
 
     fn meets(&self, span: Span) -> bool {
         match *self {
             When::Month(first, next) => (first..next).contains(&span.middle()),
-            When::Day(day) => (span.from..span.to).contains(&day),
-            When::Like(own) => span.middle().days_since(own.middle()).abs() < NEAR_DAYS,
+            When::Day(day) => span.holds(day),
+            When::Like(own) => is_near(span, own.middle()),
+            When::Dated(date) => is_near(span, Date::noon(date)),
         }
     }
+
+    /// Whether a field that states a date may be of the solution that was picked. A date may be any day of the month that was asked
+    /// for, or of the solution; what was picked by the field's own days needs no more.
+    pub fn suits(&self, date: i32, span: Span) -> bool {
+        let noon = Date::noon(date);
+        match *self {
+            When::Month(first, next) if (first..next).contains(&noon) => true,
+            When::Month(..) | When::Day(_) => span.holds(noon) || is_near(span, noon),
+            When::Like(_) | When::Dated(_) => true,
+        }
+    }
+
+    /// How the solution of a field's own days is found, where no option names one.
+    fn rule(&self) -> &'static str {
+        match self {
+            When::Month(..) | When::Day(_) => "",
+            When::Like(_) | When::Dated(_) => " (middles less than a week apart; --month names another)",
+        }
+    }
+}
+
+fn is_near(span: Span, middle: Date) -> bool {
+    span.middle().days_since(middle).abs() < NEAR_DAYS
 }
 
 impl fmt::Display for When {
@@ -79,6 +90,7 @@ impl fmt::Display for When {
             When::Month(first, _) => write!(f, "{:.7}", first.to_string()),
             When::Day(day) => write!(f, "{day}"),
             When::Like(own) => f.write_str(&own.line()),
+            When::Dated(date) => f.write_str(&shown(*date)),
         }
     }
 }
@@ -90,7 +102,7 @@ pub fn pick(path: &Path, entries: &[Entry], (n, m): (usize, usize), when: When) 
     match met[..] {
         [entry] if entry.c.is_finite() && entry.s.is_finite() => Ok(**entry),
         [entry] => Err(Error::in_file(path, format!("has no C({n},{m}) for {when} ({}): it says NaN", entry.span.line()))),
-        [] => Err(Error::in_file(path, format!("has no C({n},{m}) for {when}; {}", reach(&all)))),
+        [] => Err(Error::in_file(path, format!("has no C({n},{m}) for {when}{}; {}", when.rule(), reach(&all)))),
         _ => {
             let spans: Vec<String> = met.iter().map(|entry| entry.span.line()).collect();
             Err(Error::in_file(
@@ -140,7 +152,7 @@ fn line_13(line: &str) -> Result<Vec<Entry>, String> {
         (Ok(1), Ok(m @ (0 | 1))) => (1, m),
         _ => return Err(format!("degree {n}, order {m}; expected degree 1")),
     };
-    let span = Span { from: Date::compact(from)?, to: Date::compact(to)? };
+    let span = Span::new(Date::compact(from)?, Date::compact(to)?)?;
     Ok(vec![Entry { span, n, m, c: coefficient(c)?, s: coefficient(s)? }])
 }
 
@@ -153,7 +165,7 @@ fn line_14(line: &str) -> Result<Vec<Entry>, String> {
     let [from, _, c20, _, _, c30, _, _, to, _] = words[..] else {
         return Err(format!("{} columns; expected 10", words.len()));
     };
-    let span = Span { from: Date::of_mjd(number(from)?)?, to: Date::of_mjd(number(to)?)? };
+    let span = Span::new(Date::of_mjd(number(from)?)?, Date::of_mjd(number(to)?)?)?;
     let entry = |n, text| Ok::<Entry, String>(Entry { span, n, m: 0, c: coefficient(text)?, s: 0.0 });
     Ok(vec![entry(2, c20)?, entry(3, c30)?])
 }
@@ -180,11 +192,21 @@ mod tests {
         for wrong in ["2008", "2008-4", "2008-13", "2008-02-30", "08-04", "2008-04-01-02", "2008/04", "", "-"] {
             assert!(When::parse(wrong).is_err(), "{wrong}");
         }
+        for (text, lack) in [("2008-13", "a year has no month 13"), ("2008-02-30", "2008-02 has no day 30")] {
+            assert_eq!(When::parse(text).unwrap_err().to_string(), format!("--month is '{text}': {lack}"));
+        }
+    }
+
+    fn span(from: &str, to: &str) -> Span {
+        Span::new(Date::parse(from).unwrap(), Date::parse(to).unwrap()).unwrap()
+    }
+
+    fn date(text: &str) -> i32 {
+        Date::parse(text).unwrap().days()
     }
 
     #[test]
     fn a_month_has_the_solution_whose_middle_is_in_it() {
-        let span = |from, to| Span { from: Date::parse(from).unwrap(), to: Date::parse(to).unwrap() };
         let december = span("2011-12-13", "2012-01-10");
         assert!(when("2011-12").meets(december) && !when("2012-01").meets(december));
         assert!(when("2012-01-09").meets(december) && !when("2012-01-10").meets(december));
@@ -192,6 +214,37 @@ mod tests {
         // A field's own days are about those of its solution, and not those of one that overlaps.
         let own = When::Like(span("2011-12-14", "2012-01-11"));
         assert!(own.meets(december) && !own.meets(span("2011-12-28", "2012-01-25")));
+    }
+
+    #[test]
+    fn a_date_has_the_solution_about_it() {
+        // Solutions that overlap, with the dates that their own fields state.
+        let [october, november] = [span("2011-10-16", "2011-11-15"), span("2011-10-31", "2011-11-29")];
+        for (day, own, other) in [("2011-10-31", october, november), ("2011-11-14", november, october)] {
+            assert!(When::Dated(date(day)).meets(own) && !When::Dated(date(day)).meets(other), "{day}");
+        }
+        assert!(!When::Dated(date("2011-11-07")).meets(october) && !When::Dated(date("2011-11-07")).meets(november));
+    }
+
+    #[test]
+    fn a_date_suits_its_month_and_its_solution() {
+        let short = span("2018-06-09", "2018-06-19");
+        let suits = |month, day| when(month).suits(date(day), short);
+        // Any day of the month; else a day of the solution, or one less than a week from its middle.
+        for day in ["2018-06-01", "2018-06-08", "2018-06-16", "2018-06-30"] {
+            assert!(suits("2018-06", day), "{day}");
+        }
+        for day in ["2018-06-07", "2018-06-09", "2018-06-18", "2018-06-20"] {
+            assert!(suits("2018-06-15", day), "{day}");
+        }
+        for (month, day) in
+            [("2018-06", "2018-05-31"), ("2018-06", "2018-07-01"), ("2018-06-15", "2018-06-06"), ("2018-06-15", "2018-06-21")]
+        {
+            assert!(!suits(month, day), "{month} {day}");
+        }
+        // A solution that begins before its month, and a date in those days.
+        let early = span("2018-05-28", "2018-06-25");
+        assert!(when("2018-06").suits(date("2018-05-28"), early) && !when("2018-06").suits(date("2018-05-27"), early));
     }
 
     #[test]
@@ -206,5 +259,8 @@ mod tests {
             line_13("GRCOF2 1 0 1 0 0 0 20021304.0000 20020501.0000"),
             Err("'20021304.0000' is no date; expected yyyymmdd or yyyymmdd.hhmm".into())
         );
+        let empty = "the time from 2002-05-01 to 2002-04-04 is empty; expected a start before the end".to_string();
+        assert_eq!(line_13("GRCOF2 1 0 1 0 0 0 20020501.0000 20020404.0000"), Err(empty.clone()));
+        assert_eq!(line_14("52395.0 2002.3 -4.84e-4 0 0 NaN NaN NaN 52368.0 2002.3"), Err(empty));
     }
 }

@@ -122,9 +122,10 @@ fn a_field_that_changes_with_time_needs_an_epoch() {
     let folder = Folder::new();
     let error = convert(&folder, goco(MOVING).as_bytes(), &[]).unwrap_err();
     assert_eq!(error, "in.txt: line 16: a 'gfct' line, of a field that changes with time; expected --epoch DATE");
-    for wrong in ["2010-02-30", "soon", "10"] {
+    let expected = "; expected YYYY-MM-DD or a decimal year such as 2010.5";
+    for (wrong, what) in [("2010-02-30", ": 2010-02 has no day 30"), ("soon", expected), ("10", expected)] {
         let error = convert(&folder, goco(MOVING).as_bytes(), &["--epoch", wrong]).unwrap_err();
-        assert_eq!(error, format!("--epoch: '{wrong}' is no date; expected YYYY-MM-DD or a decimal year such as 2010.5"));
+        assert_eq!(error, format!("--epoch: '{wrong}' is no date{what}"));
     }
 }
 
@@ -134,7 +135,14 @@ fn a_field_is_that_of_its_epoch() {
     // At t0 the trend and the sines are 0 and the cosines are 1.
     let (field, notes) = convert(&folder, goco(MOVING).as_bytes(), &["--epoch", "2010-01-01"]).unwrap();
     assert_eq!((field.c(2, 0), field.c(2, 1), field.s(2, 1)), (-4.8416948e-4 + 5e-11 + 2e-11, -2e-10, 1.4e-9));
-    assert_eq!(notes, "geoid: note: in.txt: the field of 2010-01-01 (the 2 pairs that change with time)\n");
+    let told = "geoid: note: in.txt: the field of 2010-01-01 (the 2 pairs that change with time)\n";
+    assert_eq!(notes, format!("{told}geoid: note: in.txt: its date is 2010-01-01, the day of --epoch\n"));
+    assert_eq!(field.date, Some(3653));
+    // What an option says goes before that, and the time is told all the same.
+    for (option, date) in [("none", None), ("2010-01-15", Some(3667))] {
+        let (other, notes) = convert(&folder, goco(MOVING).as_bytes(), &["--epoch", "2010-01-01", "--date", option]).unwrap();
+        assert_eq!((other.date, notes.as_str()), (date, told));
+    }
     assert_eq!(convert(&folder, goco(MOVING).as_bytes(), &["--epoch", "2010.0"]).unwrap().0, field);
     // 1461 days are four years: whole periods, so only the trend is added.
     let later = convert(&folder, goco(MOVING).as_bytes(), &["--epoch", "2014-01-01"]).unwrap().0;
@@ -157,6 +165,7 @@ fn an_epoch_goes_wherever_a_field_goes() {
     geoid(&["convert", &text, &model, "--epoch", "2012-06-30"]).unwrap();
     let info = geoid(&["info", &text, "--epoch", "2012-06-30"]).unwrap();
     assert!(info.starts_with("model        GOCO-TEST\ntime         2012-06-30 (the 2 pairs that change with time)\nGM "), "{info}");
+    assert!(info.contains("\ndate         2012-06-30 (day 4564), the day of --epoch\n"), "{info}");
     assert_eq!(geoid(&["average", &text, &kernel, "--epoch", "2012-06-30"]), geoid(&["average", &model, &kernel]));
     let grid = |field: &str, options: &[&str]| {
         geoid(&[&["grid", field, "--out", &csv, "--step", "45"][..], options].concat()).unwrap();
@@ -273,7 +282,8 @@ fn mistakes_in_lines_that_change_with_time() {
 #[test]
 fn an_epoch_without_effect_is_noted() {
     let folder = Folder::new();
-    let (_, notes) = convert(&folder, eigen().as_bytes(), &["--epoch", "2010"]).unwrap();
+    let (field, notes) = convert(&folder, eigen().as_bytes(), &["--epoch", "2010"]).unwrap();
+    assert_eq!(field.date, None);
     assert!(notes.ends_with("in.txt: nothing in it changes with time; --epoch has no effect\n"), "{notes}");
 }
 
@@ -325,10 +335,51 @@ fn a_month_of_grace() {
     let lines: Vec<&str> = notes.lines().collect();
     assert_eq!(lines[0], "geoid: note: in.txt: degree 1 is absent and taken as 0, as in a model of the Earth about its centre of mass");
     assert_eq!(lines[1], "geoid: note: in.txt: the field of 2018-06-01T00:00:00.000 to 2018-06-30T23:59:59.999");
+    assert_eq!(lines[2..], ["geoid: note: in.txt: its date is 2018-06-16, the day in the middle of its head's span"]);
+    assert_eq!(field.date, Some(6741));
     let (free, _) = convert(&folder, month().replace(": inclusive", ": exclusive").as_bytes(), &[]).unwrap();
     assert_eq!(free.tide_system, TideSystem::TideFree);
     let (crlf, _) = convert(&folder, month().replace('\n', "\r\n").as_bytes(), &[]).unwrap();
     assert_eq!(crlf, field);
+}
+
+#[test]
+fn the_date_of_a_month_is_its_middle() {
+    let folder = Folder::new();
+    let date = |text: String| convert(&folder, text.as_bytes(), &[]).unwrap().0.date;
+    // The head's own times go before those of the lines, which are taken where the head's are not written as times.
+    let (start, end) = ("2018-06-01T00:00:00.000", "2018-06-30T23:59:59.999");
+    assert_eq!(date(month().replace(end, "2018-07-01T00:00:00.000")), Some(6741));
+    assert_eq!(date(month().replace(start, "2018-05-22T00:00:00.000").replace(end, "2018-06-20T23:59:59.00")), Some(6731));
+    assert_eq!(date(month().replace(start, "June 2018").replace("20180601.0000 20180701", "20180601.0000 20180702")), Some(6741));
+    assert_eq!(date(month().replace("time_coverage_end ", "time_coverage_stop").replace(" 20180601.0000", " 20180611.0000")), Some(6746));
+    // What an option says goes before both, and the time is told all the same.
+    for (option, date) in [("none", None), ("2018-06-30", Some(6755))] {
+        let (field, notes) = convert(&folder, month().as_bytes(), &["--date", option]).unwrap();
+        assert_eq!((field.date, notes.lines().count()), (date, 2), "{notes}");
+        assert!(notes.ends_with(&format!("in.txt: the field of {start} to {end}\n")), "{notes}");
+    }
+}
+
+#[test]
+fn the_times_of_a_head_are_held_against_its_lines() {
+    let folder = Folder::new();
+    let (start, end) = ("2018-06-01T00:00:00.000", "2018-06-30T23:59:59.999");
+    let notes = |from: &str, to: &str| {
+        let (field, notes) = convert(&folder, month().replace(start, from).replace(end, to).as_bytes(), &[]).unwrap();
+        assert_eq!(field.date, Some(6741));
+        notes.lines().skip(1).map(|line| line.replace("geoid: note: in.txt: ", "")).collect::<Vec<_>>().join("; ")
+    };
+    let by = |span: &str| format!("its date is 2018-06-16, the day in the middle of its {span} span");
+    // Times of the world's clock, and words that are no time.
+    let [from, to] = ["2018-06-01T00:00:00Z", "2018-06-30T23:59:59Z"];
+    assert_eq!(notes(from, to), format!("the field of {from} to {to}; {}", by("head's")));
+    assert_eq!(notes("June", "June"), format!("the field of June to June; {}", by("lines'")));
+    // A head whose middle is none of the lines' days is told, and not taken.
+    for (from, to) in [(from, "2018-12-31T23:59:59Z"), ("2018-05-01T00:00:00", "2018-05-31T23:59:59")] {
+        let told = format!("its head says {from} to {to}, but its lines are of 2018-06-01 to 2018-07-01, which are taken");
+        assert_eq!(notes(from, to), format!("{told}; the field of 2018-06-01 to 2018-07-01; {}", by("lines'")));
+    }
 }
 
 #[test]
@@ -341,7 +392,8 @@ fn a_month_goes_wherever_a_field_goes() {
         info.starts_with("model        GSM-2_2018152-2018181_GRFO_UTCSR_BA01_0600\ntime         2018-06-01T00:00:00.000 to 2018-06-30"),
         "{info}"
     );
-    assert!(info.contains("\ntide system  zero tide\ndegree       3\n"), "{info}");
+    let date = "date         2018-06-16 (day 6741), the day in the middle of its head's span";
+    assert!(info.contains(&format!("\ntide system  zero tide\n{date}\ndegree       3\n")), "{info}");
     geoid(&["convert", &text, &model]).unwrap();
     fs::write(&kernel, "gravity_constant 1\nradius 1\nmax_degree 0\nend_of_head\ngfc 0 0 1 0\n").unwrap();
     assert_eq!(geoid(&["average", &text, &kernel]).unwrap(), geoid(&["average", &model, &kernel]).unwrap());
@@ -382,6 +434,34 @@ fn a_month_is_prepared_as_it_comes() {
     let answer = geoid(&["replace", &text, &one, "--c20", &note]).unwrap();
     assert!(answer.contains("solution of 2018-06-01 to 2018-07-01\nC(2,0)  -4.84169276871e-4 -> -4.841692e-4\n"), "{answer}");
     assert_eq!(fs::read(&one).unwrap(), fs::read(&two).unwrap());
+    assert_eq!(model_file::read(&fs::read(&one).unwrap()).unwrap().date, Some(6741));
+    // The model's date names the same solution.
+    assert_eq!(geoid(&["replace", &model, &two, "--c20", &note]).unwrap().replace(&two, &one), answer);
+    assert_eq!(fs::read(&one).unwrap(), fs::read(&two).unwrap());
+}
+
+#[test]
+fn a_month_and_its_model_take_the_same_solution() {
+    let folder = Folder::new();
+    let [text, model, note, out] = ["month", "month.model", "TN-14", "out.model"].map(|name| folder.file(name));
+    fs::write(&text, month()).unwrap();
+    geoid(&["convert", &text, &model]).unwrap();
+    let replace = |field: &str, spans: &[(u32, u32)]| {
+        let lines = spans.iter().map(|(from, to)| format!("{from} 2018.3 -4.84169E-04 0.1 0.2 NaN NaN NaN {to} 2018.5\n"));
+        fs::write(&note, lines.collect::<String>()).unwrap();
+        geoid(&["replace", field, &out, "--c20", &note])
+    };
+    // June 2018, less some days or shifted by some; and solutions that the date lies in too, with middles two weeks off.
+    let (before, after) = ((58256, 58286), (58284, 58314));
+    for own in [(58270, 58300), (58274, 58300), (58266, 58296), (58276, 58304)] {
+        let [one, two] = [&text, &model].map(|field| replace(field, &[before, own, after]).unwrap());
+        assert_eq!(one, two);
+        let [from, to] = [own.0, own.1].map(|mjd| Date::of_mjd(mjd.into()).unwrap());
+        assert!(one.contains(&format!("solution of {from} to {to}\n")), "{one}");
+    }
+    for field in [&text, &model] {
+        assert!(replace(field, &[before, after]).unwrap_err().contains("has no C(2,0) for 2018-06-"));
+    }
 }
 
 #[test]
@@ -436,6 +516,21 @@ fn mistakes_in_a_month() {
             "mean_equator_radius:",
             "mean_pole_radius:",
             "line 35: the head ends without 'mean_equator_radius/value'; expected the head of a release 06 field",
+        ),
+        (
+            "time_coverage_end              : 2018-06-30T23:59:59.999",
+            "time_coverage_end              : 2018-05-01T00:00:00Z",
+            "line 16: time_coverage_end: the time from 2018-06-01 to 2018-05-01 is empty; expected a start before the end",
+        ),
+        (
+            "time_coverage_end              : 2018-06-30T23:59:59.999",
+            "time_coverage_end              : 2018-06-01T00:00:00",
+            "line 16: time_coverage_end: the time from 2018-06-01 to 2018-06-01 is empty; expected a start before the end",
+        ),
+        (
+            last,
+            "7.21321757120E-07   1.41434926190E-06 0.1234E-12 0.1234E-12 20180701.0000 20180601.0000 yyyn\n",
+            "line 43: the time from 2018-07-01 to 2018-06-01 is empty; expected a start before the end",
         ),
         (
             ": 3.9860044150E+14",

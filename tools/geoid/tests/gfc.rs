@@ -95,7 +95,7 @@ fn mistakes_in_the_head() {
         (
             "end_of_head",
             "end_of_tail",
-            "line 19: the file stops before 'end_of_head'; expected an ICGEM head (a model file begins with the byte 1)",
+            "line 19: the file stops before 'end_of_head'; expected an ICGEM head (a model file begins with the byte 1 or 4)",
         ),
     ];
     for (from, to, expected) in cases {

@@ -55,10 +55,11 @@ fn without_history(bytes: Vec<u8>) -> (Vec<u8>, Vec<u8>) {
 #[test]
 fn pieces_that_do_not_fit_are_refused() {
     let folder = Folder::new();
-    let [model, other, pieces, out] = ["m.model", "o.model", "pieces", "out.csv"].map(|name| folder.file(name));
+    let [model, other, dated, pieces, out] = ["m.model", "o.model", "d.model", "pieces", "out.csv"].map(|name| folder.file(name));
     fs::create_dir(&pieces).unwrap();
     geoid(&["sample", &model, "--degree", "4"]).unwrap();
     geoid(&["sample", &other, "--degree", "4", "--seed", "2"]).unwrap();
+    geoid(&["convert", &model, &dated, "--date", "2024-03-15"]).unwrap();
     let piece =
         |name: &str, rows: &str| geoid(&["grid", &model, "--step", "30", "--out", &format!("{pieces}/{name}.rows"), "--rows", rows]);
     let join = |model: &str, options: &[&str]| {
@@ -73,7 +74,8 @@ fn pieces_that_do_not_fit_are_refused() {
     assert_eq!(join(&model, &[]).unwrap_err(), "/b.rows: has row 3, which /a.rows has too");
     piece("b", "4/5").unwrap();
     join(&model, &[]).unwrap();
-    for (model, options) in [(&other, &[][..]), (&model, &["--zero-degree", "drop", "--normal", "none"]), (&model, &["--radius", "6.5e6"])]
+    for (model, options) in
+        [(&other, &[][..]), (&dated, &[]), (&model, &["--zero-degree", "drop", "--normal", "none"]), (&model, &["--radius", "6.5e6"])]
     {
         assert!(join(model, options).unwrap_err().contains("/a.rows: is a piece of another grid"));
     }

@@ -9,7 +9,8 @@ use geopotential::slepian::try_basin_average;
 use super::{ABSENT_AS_ZERO, Command, EPOCH, FUNCTIONAL, LOVE, field, kernel};
 use crate::arguments::{Arguments, Opt};
 use crate::body::{ANY_BODY, check_radius};
-use crate::difference::{DEGREE, Matching, Named, TIDE_AS_IS};
+use crate::dating::shown;
+use crate::difference::{DEGREE, Matching, Named, TIDE_AS_IS, dates_line};
 use crate::error::Error;
 use crate::output::{note, write_whole};
 use crate::quantity::{Love, Quantity};
@@ -39,9 +40,13 @@ pub const COMMAND: Command = Command {
               without --out answers one number in SI units with all its digits; several, or --out, a table: name, average,\n\
               share of the sphere, degree used, water heights in millimetres of water (the library's times 1000), all else\n\
               in SI units. --minus, --degree and --tide-as-is are those of geoid subtract. A geoid height is divided by\n\
-              GM/r^2, as by geoid grid --gamma sphere.\n",
+              GM/r^2, as by geoid grid --gamma sphere. Where a field has a date (as geoid convert finds it) the table has a\n\
+              column more, date, and with --minus another, minus date, which is empty for a field without one.\n",
     run,
 };
+
+/// The columns that tell months apart: a name and the same word in every line.
+type Dates = Vec<(&'static str, String)>;
 
 /// The mean over one basin.
 struct Basin {
@@ -57,7 +62,7 @@ fn run(arguments: &Arguments) -> Result<String, Error> {
     let wish = Wish::of(arguments)?;
     let matching = Matching::of(arguments)?;
     let love = quantity.love(arguments.path("--love"))?;
-    let whole = minuend(arguments, matching)?;
+    let (whole, dates) = minuend(arguments, matching)?;
     let radius = radius.unwrap_or(whole.radius);
     check_radius(radius, &whole, arguments.has(ANY_BODY.name))?;
     let field = Reduction::decide(wish, quantity, &whole, None)?.of(&whole)?;
@@ -66,18 +71,23 @@ fn run(arguments: &Arguments) -> Result<String, Error> {
     }
     let over = |path| basin(path, kernel(arguments, path)?, &field, quantity, &love, radius);
     let basins: Result<Vec<Basin>, Error> = arguments.operands_from(1).map(over).collect();
-    answer(arguments, &basins?, quantity)
+    answer(arguments, &basins?, quantity, &dates)
 }
 
-/// The field, less another one if an option names it, and cut if one says so.
-fn minuend(arguments: &Arguments, matching: Matching) -> Result<Coefficients, Error> {
+/// The field, less another one if an option names it, and cut if one says so; and the columns of their dates.
+fn minuend(arguments: &Arguments, matching: Matching) -> Result<(Coefficients, Dates), Error> {
     let path = arguments.operand(0);
     let first = field(arguments, path)?;
     let named = Named { path, field: &first };
-    match arguments.path("--minus") {
-        None => matching.alone(named),
-        Some(path) => matching.subtract(named, Named { path, field: &field(arguments, path)? }),
-    }
+    let Some(path) = arguments.path("--minus") else {
+        return Ok((matching.alone(named)?, first.date.map(|date| ("date", shown(date))).into_iter().collect()));
+    };
+    let second = field(arguments, path)?;
+    let rest = matching.subtract(named, Named { path, field: &second })?;
+    let Some(line) = dates_line(&first, &second) else { return Ok((rest, Dates::new())) };
+    note(&format!("the averages are those of {line}"));
+    let column = |name, field: &Coefficients| (name, field.date.map_or(String::new(), shown));
+    Ok((rest, vec![column("date", &first), column("minus date", &second)]))
 }
 
 /// The mean over the basin of a kernel, which is named by the kernel's file.
@@ -90,22 +100,24 @@ fn basin(path: &Path, kernel: Coefficients, field: &Coefficients, quantity: Quan
 }
 
 /// The number alone, or a table in the answer or in a file.
-fn answer(arguments: &Arguments, basins: &[Basin], quantity: Quantity) -> Result<String, Error> {
+fn answer(arguments: &Arguments, basins: &[Basin], quantity: Quantity, dates: &Dates) -> Result<String, Error> {
     match (arguments.path("--out").map(PathBuf::from), basins) {
         (Some(out), _) => {
-            write_whole(&out, table(basins, quantity).as_bytes())?;
+            write_whole(&out, table(basins, quantity, dates).as_bytes())?;
             Ok(format!("{}: {} averages in {}\n", out.display(), basins.len(), quantity.table_unit().0))
         }
         (None, [basin]) => Ok(format!("{:?}\n", basin.mean)),
-        (None, _) => Ok(table(basins, quantity)),
+        (None, _) => Ok(table(basins, quantity, dates)),
     }
 }
 
-fn table(basins: &[Basin], quantity: Quantity) -> String {
+fn table(basins: &[Basin], quantity: Quantity, dates: &Dates) -> String {
     let (unit, per_si) = quantity.table_unit();
-    let mut text = format!("name,average ({unit}),share of the sphere,degree used\n");
+    let names: String = dates.iter().map(|(name, _)| format!(",{name}")).collect();
+    let days: String = dates.iter().map(|(_, day)| format!(",{day}")).collect();
+    let mut text = format!("name,average ({unit}),share of the sphere,degree used{names}\n");
     for basin in basins {
-        let _ = writeln!(text, "{},{:?},{:?},{}", quoted(&basin.name), basin.mean * per_si, basin.share, basin.degree);
+        let _ = writeln!(text, "{},{:?},{:?},{}{days}", quoted(&basin.name), basin.mean * per_si, basin.share, basin.degree);
     }
     text
 }

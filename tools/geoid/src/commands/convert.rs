@@ -5,8 +5,9 @@ use geopotential::{Coefficients, MAX_DEGREE};
 use super::{ABSENT_AS_ZERO, Command, EPOCH, field_or_kernel};
 use crate::arguments::{Arguments, Opt};
 use crate::body::{ANY_BODY, check_either};
+use crate::dating;
 use crate::error::Error;
-use crate::field_file::{pairs, save};
+use crate::field_file::{save, summary};
 
 pub const COMMAND: Command = Command {
     name: "convert",
@@ -17,6 +18,7 @@ pub const COMMAND: Command = Command {
         Opt { name: "--degree", value: "N", help: "cut the field to degree N" },
         Opt { name: "--gm", value: "G", help: "express the field with another GM, m^3/s^2" },
         Opt { name: "--radius", value: "R", help: "express the field with another radius, m" },
+        dating::option("the date that OUT states, or none; default that of IN, see below"),
         ABSENT_AS_ZERO,
         EPOCH,
         ANY_BODY,
@@ -24,17 +26,20 @@ pub const COMMAND: Command = Command {
     details: "IN is known by its content, OUT by its extension: .gfc is ICGEM text, anything else a model file.\n\
               Every finite number keeps its bits. A text must have all its pairs, each with as many standard deviations as\n\
               its key 'errors' says, and a line break at its end; a whole model of the Earth may leave out C(0,0), which is\n\
-              then 1, and degree 1, which is then 0. Standard deviations and dates are not kept. The cut and the other\n\
-              constants are the library's: C(n,m) times (GM/G) (radius/R)^n, so that the potential stays the same.\n",
+              then 1, and degree 1, which is then 0. Standard deviations are not kept. The cut and the other\n\
+              constants are the library's: C(n,m) times (GM/G) (radius/R)^n, so that the potential stays the same.\n\
+              The date of IN is what a model file states, the day in the middle of a monthly text's span, or the day of\n\
+              --epoch where ICGEM coefficients change with time; ICGEM text itself has none. In .gfc the date is a comment.\n",
     run,
 };
 
 fn run(arguments: &Arguments) -> Result<String, Error> {
     let (from, to) = (arguments.operand(0), arguments.operand(1));
-    let field = expressed(arguments, field_or_kernel(arguments, from)?)?;
+    let date = dating::wished(arguments)?;
+    let field = expressed(arguments, field_or_kernel(arguments, from, date)?)?;
     check_either(to, &field, arguments.has(ANY_BODY.name))?;
     save(to, &field)?;
-    Ok(format!("{}: degree {}, {} pairs\n", to.display(), field.max_degree(), pairs(&field)))
+    Ok(format!("{}: {}\n", to.display(), summary(&field)))
 }
 
 /// The field, cut and with the constants that the options name.

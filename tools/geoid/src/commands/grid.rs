@@ -7,6 +7,7 @@ use geopotential::{Coefficients, MAX_DEGREE, model_file};
 use super::{ABSENT_AS_ZERO, Command, EPOCH, FUNCTIONAL, LOVE, field_file};
 use crate::arguments::{Arguments, Opt};
 use crate::body::{ANY_BODY, check_radius};
+use crate::dating::shown;
 use crate::error::Error;
 use crate::field_file::{FieldFile, has_extension};
 use crate::finite::strange;
@@ -40,7 +41,11 @@ pub const COMMAND: Command = Command {
         ABSENT_AS_ZERO,
         EPOCH,
         ANY_BODY,
-        Opt { name: "--title", value: "TEXT", help: "the title of a map, .nc file or .aux.xml; default the functional's name" },
+        Opt {
+            name: "--title",
+            value: "TEXT",
+            help: "the title of a map, .nc file or .aux.xml; default the functional's name, and the field's date if it has one",
+        },
         Opt { name: "--threads", value: "K", help: "how many threads work side by side; default one a core" },
         Opt { name: "--rows", value: "FROM/TO", help: "only these rows, counted from 1 in the north, as a piece (--out PIECE.rows)" },
         Opt { name: "--pieces", value: "FOLDER", help: "put the grid together from the .rows files there, made with the same options" },
@@ -116,7 +121,7 @@ impl Task {
         let wish = Wish::of(arguments)?;
         let cut = arguments.count("--degree", MAX_DEGREE)?;
         let surface = surface(arguments)?;
-        let title = arguments.text("--title")?.unwrap_or(quantity.title).to_string();
+        let title = arguments.text("--title")?;
         let love = quantity.love(arguments.path("--love"))?;
         let file = field_file(arguments, arguments.operand(0))?;
         let whole = file.field.truncated(cut.unwrap_or(MAX_DEGREE));
@@ -131,6 +136,7 @@ impl Task {
         if let Some(heights) = heights {
             heights.tell(arguments, &field)?;
         }
+        let title = title.map_or_else(|| default_title(quantity, field.date), str::to_string);
         let source = source(&file, arguments.operand(0), field.max_degree());
         let history = format!("geoid {}: geoid grid {}", env!("CARGO_PKG_VERSION"), arguments.line);
         let about = Provenance { quantity, title, source, reduction, heights, surface, history };
@@ -186,12 +192,17 @@ fn surface(arguments: &Arguments) -> Result<Option<Surface>, Error> {
     }
 }
 
+/// The functional's name, and the date of a field that has one, so that two months' maps don't look the same.
+fn default_title(quantity: Quantity, date: Option<i32>) -> String {
+    quantity.title.to_string() + &date.map_or(String::new(), |date| format!(", {}", shown(date)))
+}
+
 /// The model's name where it is known and not the file's own, its file, its degree, and the time that it is of.
 fn source(file: &FieldFile, path: &Path, degree: usize) -> String {
     let names = [path.file_name(), path.file_stem()].map(|name| name.unwrap_or_default().to_string_lossy());
     let model = file.name.iter().filter(|model| !names.iter().any(|name| name == *model));
     let model: String = model.map(|name| format!("model {name}, file ")).collect();
-    let time = file.time.iter().map(|time| format!(", of {time}")).collect::<String>();
+    let time = file.when().map_or(String::new(), |time| format!(", of {time}"));
     format!("{model}{}, to degree {degree}{time}", names[0])
 }
 

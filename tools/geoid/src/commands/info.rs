@@ -1,10 +1,9 @@
 //! `geoid info`: what a field is, and how strong it is at each degree.
 
-use geopotential::Coefficients;
-
 use super::{ABSENT_AS_ZERO, Command, EPOCH, FUNCTIONAL, LOVE};
 use crate::arguments::{Arguments, Opt};
 use crate::body::{ANY_BODY, check_either};
+use crate::dating::shown;
 use crate::difference::tide_name;
 use crate::error::Error;
 use crate::field_file::{Choices, FieldFile, pairs, read};
@@ -30,7 +29,7 @@ pub const COMMAND: Command = Command {
     ],
     details: "Amplitudes are those on the field's own reference sphere; 'to here' is the root of the sum of squares\n\
               from degree 2. Gravity is shown in mGal, gradients in E. The model's name and the time that the field is of\n\
-              are shown where the file tells them.\n",
+              are shown where the file tells them. The date is that of geoid convert, with its days from 2000-01-01.\n",
     run,
 };
 
@@ -45,7 +44,7 @@ fn run(arguments: &Arguments) -> Result<String, Error> {
     let mut amplitudes = field.try_degree_amplitudes(&(quantity.functional)(&love.numbers))?;
     amplitudes.iter_mut().for_each(|amplitude| *amplitude *= quantity.per_si);
     let shown = degrees(field.max_degree(), arguments.has("--all"));
-    Ok(sayings(&file) + &head(field) + &table(&amplitudes, &shown, quantity) + "\n" + &plot::bars(&amplitudes, quantity.unit))
+    Ok(sayings(&file) + &head(&file) + &table(&amplitudes, &shown, quantity) + "\n" + &plot::bars(&amplitudes, quantity.unit))
 }
 
 /// What the file itself says of the field, and what was taken for granted. Control characters are shown as `?`.
@@ -56,15 +55,22 @@ fn sayings(file: &FieldFile) -> String {
     name.chain(time).chain(notes).map(|(label, text)| format!("{label:<13}{}\n", text.replace(char::is_control, "?"))).collect()
 }
 
-fn head(field: &Coefficients) -> String {
+fn head(file: &FieldFile) -> String {
+    let field = &file.field;
     let tide = tide_name(field.tide_system).unwrap_or("not stated");
+    let date = field.date.map_or("not stated".into(), |days| format!("{} (day {days}){}", shown(days), by(file)));
     format!(
-        "GM           {:e} m³/s²\nradius       {} m\ntide system  {tide}\ndegree       {}\npairs        {}\n\n",
+        "GM           {:e} m³/s²\nradius       {} m\ntide system  {tide}\ndate         {date}\ndegree       {}\npairs        {}\n\n",
         field.gm,
         field.radius,
         field.max_degree(),
         pairs(field)
     )
+}
+
+/// What the date is by, where the file does not state it.
+fn by(file: &FieldFile) -> String {
+    file.dating.map_or(String::new(), |by| format!(", {by}"))
 }
 
 /// The degrees of the table: all of a small field, else the first ones and multiples of a round number.

@@ -21,7 +21,7 @@ use geopotential::Coefficients;
 use crate::arguments::{Arguments, Opt};
 use crate::body;
 use crate::error::Error;
-use crate::field_file::{Choices, FieldFile, load, read};
+use crate::field_file::{Choices, FieldFile, read};
 use crate::part_file::catch_signals;
 
 /// A command: how it is called, what its help says, and what runs it. It answers the text for standard
@@ -141,18 +141,20 @@ fn field(arguments: &Arguments, path: &Path) -> Result<Coefficients, Error> {
     field_file(arguments, path).map(|file| file.field)
 }
 
-/// A field or a kernel from a file, its head checked.
-fn field_or_kernel(arguments: &Arguments, path: &Path) -> Result<Coefficients, Error> {
-    let field = load(path, &Choices::of(arguments)?)?;
-    body::check_either(path, &field, arguments.has(body::ANY_BODY.name))?;
-    Ok(field)
+/// A field or a kernel from a file, its head checked, with the date that an option names if one does.
+fn field_or_kernel(arguments: &Arguments, path: &Path, date: Option<Option<i32>>) -> Result<Coefficients, Error> {
+    let mut file = read(path, &Choices::of(arguments)?)?;
+    file.tell_and_date(path, date);
+    body::check_either(path, &file.field, arguments.has(body::ANY_BODY.name))?;
+    Ok(file.field)
 }
 
-/// A kernel from a file, checked. A basin does not change with time: an epoch is the field's alone.
+/// A kernel from a file, checked. A basin does not change with time: an epoch is the field's alone, and so is the time that is told.
 fn kernel(arguments: &Arguments, path: &Path) -> Result<Coefficients, Error> {
-    let kernel = load(path, &Choices { epoch: None, ..Choices::of(arguments)? })?;
-    body::check_kernel(path, &kernel)?;
-    Ok(kernel)
+    let file = read(path, &Choices { epoch: None, ..Choices::of(arguments)? })?;
+    file.tell_notes(path);
+    body::check_kernel(path, &file.field)?;
+    Ok(file.field)
 }
 
 /// The option that names a functional, with its values.

@@ -8,10 +8,11 @@ use geopotential::Coefficients;
 use super::{ABSENT_AS_ZERO, Command, EPOCH, field_file};
 use crate::arguments::{Arguments, Opt};
 use crate::body::{ANY_BODY, is_difference};
+use crate::dating::shown;
 use crate::difference::TIDE_AS_IS;
 use crate::error::Error;
 use crate::field_file::{FieldFile, save};
-use crate::technical_note::{Entry, Span, When, load_13, load_14, pick};
+use crate::technical_note::{Entry, When, load_13, load_14, pick};
 
 /// GRACE's own constants, which the notes' coefficients belong to.
 const GM: f64 = 3.986004415e14;
@@ -28,7 +29,7 @@ pub const COMMAND: Command = Command {
         Opt {
             name: "--month",
             value: "YYYY-MM",
-            help: "the month of IN: the solution whose middle lies in it; or YYYY-MM-DD, a day in the solution;\ndefault the solution of IN's own days (middles within a week), which a monthly text of GRACE tells",
+            help: "the month of IN: the solution whose middle lies in it; or YYYY-MM-DD, a day in the solution;\ndefault the solution whose middle is less than a week from that of IN's own days, which a monthly\ntext of GRACE tells, or else from the date of IN",
         },
         Opt { name: "--c20", value: "FILE", help: "C(2,0) from a file of technical note 14" },
         Opt { name: "--c30", value: "FILE", help: "C(3,0) from a file of technical note 14" },
@@ -41,7 +42,8 @@ pub const COMMAND: Command = Command {
     details: "IN is a month itself, not a difference (replace first, then subtract). The notes' values belong to GRACE's GM\n\
               3.986004415e14 and radius 6378136.3; the library expresses them with IN's. The answer has a line for each\n\
               coefficient, with the value before and the new one. A month that a file lacks, has twice or calls NaN is\n\
-              refused.\n",
+              refused. OUT has the date of IN, as geoid convert finds it: a --month is refused where that date is neither\n\
+              a day of it nor of the solution, nor less than a week from the solution's middle.\n",
     run,
 };
 
@@ -49,7 +51,8 @@ fn run(arguments: &Arguments) -> Result<String, Error> {
     let named = arguments.text("--month")?.map(When::parse).transpose()?;
     let (from, to) = (arguments.operand(0), arguments.operand(1));
     let file = field_file(arguments, from)?;
-    let entries = entries(arguments, named.map_or_else(|| own_days(from, &file), Ok)?)?;
+    let when = named.map_or_else(|| own_days(from, &file), Ok)?;
+    let entries = entries(arguments, when)?;
     let mut field = file.field;
     if is_difference(&field)? {
         return Err(Error::in_file(
@@ -62,6 +65,7 @@ fn run(arguments: &Arguments) -> Result<String, Error> {
         if entry.n > field.max_degree() {
             return Err(Error::in_file(from, format!("has degree {}; C({},0) has no place in it", field.max_degree(), entry.n)));
         }
+        check_date(from, field.date, when, entry)?;
         let new = expressed(entry, &field)?;
         check_tide(from, &field, &new, arguments.has(TIDE_AS_IS.name))?;
         put(&mut field, &new, &mut text)?;
@@ -70,10 +74,13 @@ fn run(arguments: &Arguments) -> Result<String, Error> {
     Ok(format!("{}: degree {}, solution of {}\n{text}", to.display(), field.max_degree(), entries[0].span.line()))
 }
 
-/// The days that a month's own file tells.
+/// The days that a month's own file tells, or the one in their middle that it states as its date.
 fn own_days(path: &Path, file: &FieldFile) -> Result<When, Error> {
-    let (from, to) = file.span.ok_or_else(|| Error::in_file(path, "does not tell its month; expected --month YYYY-MM"))?;
-    Ok(When::Like(Span { from, to }))
+    match (file.span, file.field.date) {
+        (Some(span), _) => Ok(When::Like(span)),
+        (None, Some(date)) => Ok(When::Dated(date)),
+        (None, None) => Err(Error::in_file(path, "does not tell its month; expected --month YYYY-MM")),
+    }
 }
 
 /// The entries that the options ask for.
@@ -102,6 +109,19 @@ fn expressed(entry: &Entry, field: &Coefficients) -> Result<Entry, Error> {
     alone.try_set(entry.n, entry.m, entry.c, entry.s)?;
     let alone = alone.rescaled(field.gm, field.radius);
     Ok(Entry { c: alone.try_c(entry.n, entry.m)?, s: alone.try_s(entry.n, entry.m)?, ..*entry })
+}
+
+/// OUT keeps the date of IN: with coefficients of another time it would state what is not so.
+fn check_date(path: &Path, date: Option<i32>, when: When, entry: &Entry) -> Result<(), Error> {
+    let Some(date) = date.filter(|&date| !when.suits(date, entry.span)) else { return Ok(()) };
+    Err(Error::in_file(
+        path,
+        format!(
+            "its date is {}, but the solution for --month {when} is that of {}; expected a --month about its date, or another date by geoid convert --date first",
+            shown(date),
+            entry.span.line()
+        ),
+    ))
 }
 
 /// A C(2,0) of another tide system would be a wrong number that nobody sees.

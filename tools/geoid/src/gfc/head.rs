@@ -63,7 +63,7 @@ fn begins(line: &str, word: &str) -> bool {
 fn values(text: &str) -> Result<(Values<'_>, usize), Fault> {
     let lines = || (1..).zip(text.lines().map(str::trim_start));
     let Some((end, _)) = lines().find(|(_, line)| is_end(line)) else {
-        let what = "the file stops before 'end_of_head'; expected an ICGEM head (a model file begins with the byte 1)";
+        let what = "the file stops before 'end_of_head'; expected an ICGEM head (a model file begins with the byte 1 or 4)";
         return Err(Fault::at(text.lines().count().max(1), what));
     };
     let begin = lines().take(end).find(|(_, line)| begins(line, "begin_of_head")).map_or(0, |(number, _)| number);

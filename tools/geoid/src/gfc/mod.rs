@@ -28,11 +28,13 @@ pub fn read(text: &str, choices: &Choices) -> Result<FieldFile, Fault> {
     let (head, end) = head::read(text)?;
     check_end(text)?;
     let Pairs { table, moved, doubt } = data::read(&head, text, end, choices.epoch)?;
-    let (field, mut notes) = table.finish(choices.absent_as_zero)?;
+    let (mut field, mut notes) = table.finish(choices.absent_as_zero)?;
     notes.extend(doubt);
-    let time = choices.epoch.filter(|_| moved > 0).map(|epoch| format!("{epoch} (the {moved} pairs that change with time)"));
-    if time.is_none() {
+    let epoch = choices.epoch.filter(|_| moved > 0);
+    if epoch.is_none() {
         notes.extend(choices.unused_epoch());
     }
-    Ok(FieldFile { field, name: head.name, time, span: None, notes })
+    field.date = epoch.map(|epoch| epoch.days());
+    let time = epoch.map(|epoch| format!("{epoch} (the {moved} pairs that change with time)"));
+    Ok(FieldFile { field, name: head.name, time, dating: epoch.map(|_| "the day of --epoch"), span: None, notes })
 }

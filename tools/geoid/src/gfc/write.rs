@@ -4,14 +4,16 @@ use std::fmt::Write;
 
 use geopotential::{Coefficients, TideSystem};
 
+use crate::dating::shown;
 use crate::error::Error;
 
 /// The text of a field: numbers have the shortest digits that read back to the same bits, each pair
-/// has one line. A number that is not finite has no place in the format and is an error.
+/// has one line. A number that is not finite has no place in the format and is an error. A date has no key:
+/// it stands in the free text before the head.
 pub fn write(name: &str, field: &Coefficients) -> Result<String, Error> {
     finite("earth_gravity_constant", field.gm)?;
     finite("radius", field.radius)?;
-    let mut text = head(name, field);
+    let mut text = field.date.map_or(String::new(), comment) + &head(name, field);
     for n in 0..=field.max_degree() {
         for m in 0..=n {
             let (c, s) = (field.try_c(n, m)?, field.try_s(n, m)?);
@@ -26,6 +28,15 @@ pub fn write(name: &str, field: &Coefficients) -> Result<String, Error> {
 
 fn finite(what: &(impl std::fmt::Display + ?Sized), value: f64) -> Result<(), Error> {
     if value.is_finite() { Ok(()) } else { Err(Error::failure(format!("{what} is {value}; a .gfc file has finite numbers only"))) }
+}
+
+/// The free text of a date, and the line that ends free text.
+fn comment(date: i32) -> String {
+    format!(
+        "comment: the field of {} (day {date} from 2000-01-01)\n\
+         begin_of_head ==================================\n",
+        shown(date)
+    )
 }
 
 fn head(name: &str, field: &Coefficients) -> String {

@@ -2,7 +2,9 @@
 
 use geopotential::{MAX_DEGREE, TideSystem};
 
+use crate::date::Date;
 use crate::gfc::{number, whole};
+use crate::span::Span;
 use crate::text::Fault;
 
 /// What the head says of the field.
@@ -12,8 +14,15 @@ pub struct Head {
     pub radius: f64,
     pub max_degree: usize,
     pub tide_system: TideSystem,
-    /// The time that the field is the mean of.
-    pub coverage: Option<String>,
+    pub coverage: Option<Coverage>,
+}
+
+/// The time that the head says the field is the mean of.
+pub struct Coverage {
+    /// In the head's words.
+    pub words: String,
+    /// Its days, where its two ends are written as times.
+    pub span: Option<Span>,
 }
 
 /// A key with those above it (`a/b/c`), its value and the number of its line.
@@ -42,7 +51,7 @@ pub fn read(text: &str) -> Result<(Head, usize), Fault> {
         radius: required(&entries, end, "mean_equator_radius/value", number)?,
         max_degree: required(&entries, end, "dimensions/degree", degree)?,
         tide_system: tide_system(&entries)?,
-        coverage: coverage(&entries),
+        coverage: coverage(&entries)?,
     };
     Ok((head, end))
 }
@@ -100,7 +109,11 @@ fn tide_system(entries: &[Entry]) -> Result<TideSystem, Fault> {
     }
 }
 
-fn coverage(entries: &[Entry]) -> Option<String> {
-    let (start, end) = (find(entries, "time_coverage_start")?, find(entries, "time_coverage_end")?);
-    Some(format!("{} to {}", start.value, end.value))
+fn coverage(entries: &[Entry]) -> Result<Option<Coverage>, Fault> {
+    let [start, end] = ["time_coverage_start", "time_coverage_end"].map(|key| find(entries, key));
+    let Some((start, end)) = start.zip(end) else { return Ok(None) };
+    let times = Date::stamp(start.value).zip(Date::stamp(end.value));
+    let span = times.map(|(from, to)| Span::new(from, to)).transpose();
+    let span = span.map_err(|what| Fault::at(end.line, format!("time_coverage_end: {what}")))?;
+    Ok(Some(Coverage { words: format!("{} to {}", start.value, end.value), span }))
 }

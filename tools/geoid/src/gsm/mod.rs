@@ -4,17 +4,22 @@
 mod head;
 
 use geopotential::Coefficients;
-use head::Head;
+use head::{Coverage, Head};
 
 use crate::date::Date;
 use crate::field_file::{Choices, FieldFile};
 use crate::gfc::{number, whole};
 use crate::pair_table::PairTable;
+use crate::span::Span;
 use crate::text::{Fault, check_end};
 
 /// The keyword of a pair's line, and the words behind it.
 const PAIR: &str = "GRCOF2";
 const WORDS: usize = 9;
+
+/// What a date is by.
+const BY_HEAD: &str = "the day in the middle of its head's span";
+const BY_LINES: &str = "the day in the middle of its lines' span";
 
 /// Whether a text has the line that ends the head.
 pub fn is_gsm(text: &str) -> bool {
@@ -26,19 +31,32 @@ pub fn read(text: &str, choices: &Choices) -> Result<FieldFile, Fault> {
     let (head, end) = head::read(text)?;
     check_end(text)?;
     let mut table = PairTable::new(empty(&head).map_err(|what| Fault::at(end, what))?);
-    let mut span: Option<(Date, Date)> = None;
+    let mut lines: Option<Span> = None;
     for (line, content) in (1..).zip(text.lines()).skip(end) {
         let Some(record) = record(content, &head).map_err(|what| Fault::at(line, what))? else { continue };
         table.put(record.pair, record.values, line)?;
-        let (from, until) = record.span;
-        span = Some(
-            span.map_or(record.span, |(first, last)| (if from < first { from } else { first }, if until > last { until } else { last })),
-        );
+        lines = Some(lines.map_or(record.span, |span| span.joined(record.span)));
     }
-    let (field, mut notes) = table.finish(choices.absent_as_zero)?;
+    let (mut field, mut notes) = table.finish(choices.absent_as_zero)?;
     notes.extend(choices.unused_epoch());
-    let time = head.coverage.or(span.map(|(from, until)| format!("{from} to {until}")));
-    Ok(FieldFile { field, name: head.name, time, span, notes })
+    let stated = supported(head.coverage, lines, &mut notes);
+    let by_head = stated.as_ref().and_then(|coverage| coverage.span).map(|span| (span, BY_HEAD));
+    let (span, dating) = by_head.or(lines.map(|span| (span, BY_LINES))).unzip();
+    field.date = span.map(|span| span.middle().days());
+    let time = stated.map(|coverage| coverage.words).or(lines.map(|span| span.line()));
+    Ok(FieldFile { field, name: head.name, time, dating, span: lines, notes })
+}
+
+/// What the head states, unless the lines speak against it: the middle of it would be a date that no line supports.
+fn supported(stated: Option<Coverage>, lines: Option<Span>, notes: &mut Vec<String>) -> Option<Coverage> {
+    let stated = stated?;
+    match (stated.span, lines) {
+        (Some(span), Some(lines)) if !lines.holds(span.middle()) => {
+            notes.push(format!("its head says {}, but its lines are of {}, which are taken", stated.words, lines.line()));
+            None
+        }
+        _ => Some(stated),
+    }
 }
 
 fn empty(head: &Head) -> Result<Coefficients, String> {
@@ -51,7 +69,7 @@ fn empty(head: &Head) -> Result<Coefficients, String> {
 struct Record {
     pair: (usize, usize),
     values: (f64, f64),
-    span: (Date, Date),
+    span: Span,
 }
 
 /// The record of a line; an empty line has none.
@@ -71,6 +89,6 @@ fn record(content: &str, head: &Head) -> Result<Option<Record>, String> {
     }
     number(sigma_c)?;
     number(sigma_s)?;
-    let span = (Date::compact(begin)?, Date::compact(end)?);
+    let span = Span::new(Date::compact(begin)?, Date::compact(end)?)?;
     Ok(Some(Record { pair: (n, m), values: (number(c)?, number(s)?), span }))
 }
