@@ -1,12 +1,8 @@
 // Replays what the C entries refuse by themselves (cases.rt): a number that is no functional's, a tide that is none, lists of fixed lengths; and which of
 // two wrong lists they refuse. For each entry a line, how many of its refusals, and of the places that it changes in the lists lent to it, are those due.
-// Then what some entries hand on (values.rt).
-mod answers;
 mod cases;
 mod entries;
 mod model_files;
-mod told;
-mod values;
 
 use replay_cases::MARK;
 use replay_cases::Seen;
@@ -116,6 +112,4 @@ fn main() {
         &cases::MODEL_WRITE,
         &cases::MODEL_WRITE_DUE,
     );
-    values::show_values();
-    told::show_told();
 }

@@ -1,4 +1,4 @@
-// Replays what the C entries hand on (answers.rt), and refusals that cases.rt has not: for each call a line, how many words are those due, its refusal
+// Replays what the C entries hand on (answers.rt), and refusals that replay_refusals_c has not: for each call a line, how many words are those due, its refusal
 // and all that its lists and its number hold afterwards.
 use crate::answers;
 use geopotential::files::geopotential_model_read;
