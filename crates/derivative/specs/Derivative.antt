@@ -61,6 +61,10 @@ dCell s n m =
 abbrev pub dpCell : (a b : ℕ → Float) → (t u : Float) → ℕ → ℕ → Float
 dpCell a b t u n m = dCell (pCell a b t u) n m
 
+-- its second derivative, the derivative of that
+abbrev pub ddpCell : (a b : ℕ → Float) → (t u : Float) → ℕ → ℕ → Float
+ddpCell a b t u n m = dCell (dpCell a b t u) n m
+
 -- ---- by weights, which do not depend on the latitude
 -- what the number at order m - 1 counts for, and in column 0 the number at order 1: the one root that each entry takes
 unfoldable pub weightCell : ℕ → ℕ → Float

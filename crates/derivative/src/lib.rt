@@ -69,8 +69,8 @@ fn weights_row(n: usize, at: usize, root: &[f64], w: &mut [f64])
     lower_weights(n, at, root, w);
 }
 
-// The table of the weights up to degree nmax; `root` is overwritten.
-fn weights_rows(nmax: usize, root: &mut [f64], out: &mut [f64])
+// The table of the weights up to degree nmax, which serves every latitude; `root` is overwritten.
+pub fn weights_rows(nmax: usize, root: &mut [f64], out: &mut [f64])
     requires { ⌜ nmax ≤ 2700 ⌝ ∗ ⌜ nmax + nmax + 1 < length (now root) ⌝ ∗ ⌜ tableSize nmax ≤ length (now out) ⌝ }
     ensures { λ _. ⌜ Filled 0 (along weightCell) (tableSize nmax) (now (out .entry)) (now (out .exit)) ⌝ }
 {
@@ -81,21 +81,6 @@ fn weights_rows(nmax: usize, root: &mut [f64], out: &mut [f64])
         weights_row(n, at, root, out);
         at = at + n + 1;
         n = n + 1;
-    }
-}
-
-// The table of the weights up to degree nmax, which serves every latitude. A low degree takes a short table of guesses, since clearing the long
-// one takes longer than its rows.
-pub fn weights(nmax: usize, out: &mut [f64])
-    requires { ⌜ nmax ≤ 2700 ⌝ ∗ ⌜ tableSize nmax ≤ length (now out) ⌝ }
-    ensures { λ _. ⌜ Filled 0 (along weightCell) (tableSize nmax) (now (out .entry)) (now (out .exit)) ⌝ }
-{
-    if nmax < 128 {
-        let mut root = [0.0; 256];
-        weights_rows(nmax, &mut root, out);
-    } else {
-        let mut root = [0.0; 5402];
-        weights_rows(nmax, &mut root, out);
     }
 }
 

@@ -4,5 +4,6 @@ pub mod Files
 pub mod RoundTrips
 pub mod Fields
 pub mod Points
+pub mod Tensors
 pub mod Analyses
 pub mod Lists

@@ -15,4 +15,5 @@ pub mod models;
 mod numbers;
 pub mod points;
 mod tables;
+pub mod tensors;
 mod version;

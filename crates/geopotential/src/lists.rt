@@ -8,7 +8,8 @@ ghost use Rattle.model_file.specs.Format.{headOf};
 ghost use Rattle.lengths.specs.Told.{sizeCheck, lengthsCheck, lengthsAfter};
 ghost use Rattle.lengths.specs.Lengths.{degreeSize, twoDegrees, gridSizes, alongSizes, readSizes, tablesLengths, factorLengths, truncatedLengths};
 ghost use Rattle.lengths.specs.Lengths.{variancesLengths, amplitudesLengths, readLengths, writeLengths, gaussLengths, gridLengths, averageLengths};
-ghost use Rattle.lengths.specs.Lengths.{partialsLengths, alongLengths, threeLengths, analysisLengths, eigenLengths, capLengths};
+ghost use Rattle.lengths.specs.Lengths.{partialsLengths, alongLengths, threeLengths, secondLengths, secondAlongLengths, nineLengths, analysisLengths, eigenLengths};
+ghost use Rattle.lengths.specs.Lengths.{capLengths};
 
 #[no_mangle]
 pub extern "C" fn geopotential_factor_lengths(n: usize, lengths: &mut [usize]) -> u32
@@ -211,6 +212,34 @@ pub extern "C" fn geopotential_gravity_neu_lengths(lengths: &mut [usize]) -> u32
     ensures { λ x. ⌜ now (lengths .exit) ≡ lengthsAfter Done threeLengths (now (lengths .entry)) ⌝ }
 {
     refusal::answer_number(lengths::gravity_neu(lengths))
+}
+
+#[no_mangle]
+pub extern "C" fn geopotential_second_partials_lengths(nmax: usize, lengths: &mut [usize]) -> u32
+    ensures { λ x. ⌜ x ≡ answerNumber (lengthsCheck (degreeSize nmax) (secondLengths nmax) (length (now (lengths .entry)))) ⌝ }
+    ensures { λ x. ⌜ now (lengths .exit) ≡ lengthsAfter (degreeSize nmax) (secondLengths nmax) (now (lengths .entry)) ⌝ }
+{
+    refusal::answer_number(lengths::second_partials(nmax, lengths))
+}
+
+#[no_mangle]
+pub extern "C" fn geopotential_second_partials_along_lengths(
+    nmax: usize,
+    points: usize,
+    lengths: &mut [usize],
+) -> u32
+    ensures { λ x. ⌜ x ≡ answerNumber (lengthsCheck (alongSizes nmax points) (secondAlongLengths nmax points) (length (now (lengths .entry)))) ⌝ }
+    ensures { λ x. ⌜ now (lengths .exit) ≡ lengthsAfter (alongSizes nmax points) (secondAlongLengths nmax points) (now (lengths .entry)) ⌝ }
+{
+    refusal::answer_number(lengths::second_partials_along(nmax, points, lengths))
+}
+
+#[no_mangle]
+pub extern "C" fn geopotential_tensor_neu_lengths(lengths: &mut [usize]) -> u32
+    ensures { λ x. ⌜ x ≡ answerNumber (lengthsCheck Done nineLengths (length (now (lengths .entry)))) ⌝ }
+    ensures { λ x. ⌜ now (lengths .exit) ≡ lengthsAfter Done nineLengths (now (lengths .entry)) ⌝ }
+{
+    refusal::answer_number(lengths::tensor_neu(lengths))
 }
 
 #[no_mangle]

@@ -40,8 +40,9 @@ use Rattle.quadrature.specs.Gauss.{guessCount, gaussCheck}
 use Rattle.quadrature.specs.GaussLaws.{gauss-done}
 use Rattle.synthesis.specs.Grid.{workSize, gridCheck}
 use Rattle.synthesis.specs.Checks as grids
-use Rattle.local.specs.Point.{partialsCheck, alongCheck}
-use Rattle.partials.specs.Checks.{one-passed, many-passed}
+use Rattle.local.specs.Point.{pointCheckOf, alongCheckOf, partialsCheck, alongCheck}
+use Rattle.local.specs.Second.{secondCheck, secondAlongCheck}
+use Rattle.point_lists.specs.Checks.{point-passed, many-passed}
 use Rattle.analysis.specs.Analysis.{pointsOf, analysisCheck}
 use Rattle.analysis.specs.Checks.{outputs}
 use Rattle.slepian.specs.Average.{averageCheck, check-done}
@@ -52,7 +53,8 @@ use Rattle.polar_cap.specs.CapChecks as caps
 use Rattle.lengths.specs.Told.{sizeCheck, lengthsCheck, lengthsAfter, within}
 use Rattle.lengths.specs.Lengths.{degreeSize, twoDegrees, gridSizes, alongSizes, tablesLengths, factorLengths, truncatedLengths}
 use Rattle.lengths.specs.Lengths.{variancesLengths, amplitudesLengths, fileLengths, readLengths, writeLengths, gaussLengths, gridLengths}
-use Rattle.lengths.specs.Lengths.{averageLengths, partialsLengths, alongLengths, analysisLengths, eigenLengths, capLengths}
+use Rattle.lengths.specs.Lengths.{averageLengths, pointLengths, partialsLengths, secondLengths, pointsLengths, alongLengths, secondAlongLengths}
+use Rattle.lengths.specs.Lengths.{analysisLengths, eigenLengths, capLengths}
 
 -- ---- what a call that is done has told
 -- sizes within the limits
@@ -190,16 +192,26 @@ module _ (N : ℕ) (ok : Done ≡ degreeSize N) where
   unfolding factorLengths
   factor-enough f love gm radius r e = let l : length love ≡ N + 1 = cc in factor-value f love N gm radius r top (love-told f (length love) N l) refl
 
-  -- `partials`
-  pub partials-enough : (c s trig work out : ℕ) → c ∷ s ∷ trig ∷ work ∷ out ∷ [] ≡ partialsLengths N
-      → (Done ≡ partialsCheck N c s trig work) × (out ≡ 4)
-  unfolding partialsLengths
-  partials-enough c s trig work out e =
+  -- a call for one point
+  point-enough : (k numbers c s trig work out : ℕ) → c ∷ s ∷ trig ∷ work ∷ out ∷ [] ≡ pointLengths k numbers N
+      → (Done ≡ pointCheckOf k N c s trig work) × (out ≡ numbers)
+  unfolding pointLengths
+  point-enough k numbers c s trig work out e =
       let p : c ≡ tableSize N = cc in
       let q : s ≡ tableSize N = cc in
       let o : trig ≡ N + N + 2 = cc in
-      let w : work ≡ 4 * tableSize N = cc in
-      (one-passed N c s trig work (two-tables p q) o (omega arith), cc)
+      let w : work ≡ k * tableSize N = cc in
+      (point-passed k N c s trig work (two-tables p q) o (omega arith), cc)
+
+  -- `partials`
+  pub partials-enough : (c s trig work out : ℕ) → c ∷ s ∷ trig ∷ work ∷ out ∷ [] ≡ partialsLengths N
+      → (Done ≡ partialsCheck N c s trig work) × (out ≡ 4)
+  partials-enough = point-enough 4 4
+
+  -- `second_partials`
+  pub second-enough : (c s trig work out : ℕ) → c ∷ s ∷ trig ∷ work ∷ out ∷ [] ≡ secondLengths N
+      → (Done ≡ secondCheck N c s trig work) × (out ≡ 10)
+  second-enough = point-enough 5 10
 
   -- `analysis`
   pub analysis-enough : (f : Functional) (love values weights lats trig work c s : ℕ)
@@ -219,20 +231,31 @@ module _ (N : ℕ) (ok : Done ≡ degreeSize N) where
       (space-done (tableSize N) c s (omega arith) (omega arith))
 
 -- ---- calls with other sizes
--- `partials_along`
-pub along-enough : (N points c s radii lats trig work out : ℕ) → Done ≡ alongSizes N points
-    → c ∷ s ∷ radii ∷ lats ∷ trig ∷ work ∷ out ∷ [] ≡ alongLengths N points → Done ≡ alongCheck N c s points radii lats trig work out
-unfolding alongLengths
-along-enough N points c s radii lats trig work out ok e =
+-- a call for many points
+points-enough : (k numbers N points c s radii lats trig work out : ℕ) → Done ≡ alongSizes N points
+    → c ∷ s ∷ radii ∷ lats ∷ trig ∷ work ∷ out ∷ [] ≡ pointsLengths k numbers N points
+    → Done ≡ alongCheckOf k numbers N c s points radii lats trig work out
+unfolding pointsLengths
+points-enough k numbers N points c s radii lats trig work out ok e =
     let (few, d) = both (sizeCheck 65535 points) _ ok in
     let p : c ≡ tableSize N = cc in
     let q : s ≡ tableSize N = cc in
     let i : radii ≡ points = cc in
     let l : lats ≡ points + points = cc in
     let t : trig ≡ points * (N + N + 2) = cc in
-    let w : work ≡ 4 * tableSize N = cc in
-    let o : out ≡ 4 * points = cc in
-    many-passed N c s points radii lats trig work out (within 65535 points few) (two-tables N d p q) i l t (omega arith) (omega arith)
+    let w : work ≡ k * tableSize N = cc in
+    let o : out ≡ numbers * points = cc in
+    many-passed k numbers N c s points radii lats trig work out (within 65535 points few) (two-tables N d p q) i l t (omega arith) (omega arith)
+
+-- `partials_along`
+pub along-enough : (N points c s radii lats trig work out : ℕ) → Done ≡ alongSizes N points
+    → c ∷ s ∷ radii ∷ lats ∷ trig ∷ work ∷ out ∷ [] ≡ alongLengths N points → Done ≡ alongCheck N c s points radii lats trig work out
+along-enough = points-enough 4 4
+
+-- `second_partials_along`
+pub second-along-enough : (N points c s radii lats trig work out : ℕ) → Done ≡ alongSizes N points
+    → c ∷ s ∷ radii ∷ lats ∷ trig ∷ work ∷ out ∷ [] ≡ secondAlongLengths N points → Done ≡ secondAlongCheck N c s points radii lats trig work out
+second-along-enough = points-enough 5 10
 
 -- `grid`
 pub grid-enough : (f : Functional) (N rows longitudes c s love lats trig work out : ℕ) → Done ≡ gridSizes N rows longitudes

@@ -18,7 +18,6 @@ use Rattle.model_file.specs.declared.Reading.{Reading}
 use Rattle.model_file.specs.declared.Reading.the-variants.{Model, Refused}
 use Rattle.quadrature.specs.Gauss.{guessCount}
 use Rattle.synthesis.specs.Grid.{workSize}
-use Rattle.local.specs.Point.{workSize as pointWork}
 use Rattle.analysis.specs.Analysis.{pointsOf}
 use Rattle.polar_cap.specs.PolarCap.{vectorsSize, capWork}
 use Rattle.lengths.specs.Told.{sizeCheck}
@@ -89,18 +88,38 @@ gridLengths N rows longitudes =
 unfoldable pub averageLengths : (N K : ℕ) → List ℕ
 averageLengths N K = tableSize N ∷ tableSize N ∷ tableSize K ∷ tableSize K ∷ (min N K + 1) ∷ []
 
--- c, s, trig, work, out
-unfoldable pub partialsLengths : ℕ → List ℕ
-partialsLengths N = tableSize N ∷ tableSize N ∷ (N + N + 2) ∷ pointWork N ∷ 4 ∷ []
+-- c, s, trig, work, out of a call for one point that may use k tables of its working list and writes so many numbers: `partials` and
+-- `second_partials`
+unfoldable pub pointLengths : (k numbers N : ℕ) → List ℕ
+pointLengths k numbers N = tableSize N ∷ tableSize N ∷ (N + N + 2) ∷ (k * tableSize N) ∷ numbers ∷ []
 
--- c, s, radii, latitudes, trig, work, out
-unfoldable pub alongLengths : (N points : ℕ) → List ℕ
-alongLengths N points =
-    tableSize N ∷ tableSize N ∷ points ∷ (points + points) ∷ (points * (N + N + 2)) ∷ pointWork N ∷ (4 * points) ∷ []
+abbrev pub partialsLengths : ℕ → List ℕ
+partialsLengths = pointLengths 4 4
 
--- out of `acceleration_neu` and `gravity_neu`
-unfoldable pub threeLengths : List ℕ
-threeLengths = 3 ∷ []
+abbrev pub secondLengths : ℕ → List ℕ
+secondLengths = pointLengths 5 10
+
+-- c, s, radii, latitudes, trig, work, out of such a call for many points
+unfoldable pub pointsLengths : (k numbers N points : ℕ) → List ℕ
+pointsLengths k numbers N points =
+    tableSize N ∷ tableSize N ∷ points ∷ (points + points) ∷ (points * (N + N + 2)) ∷ (k * tableSize N) ∷ (numbers * points) ∷ []
+
+abbrev pub alongLengths : (N points : ℕ) → List ℕ
+alongLengths = pointsLengths 4 4
+
+abbrev pub secondAlongLengths : (N points : ℕ) → List ℕ
+secondAlongLengths = pointsLengths 5 10
+
+-- the one list of a call that takes no size
+abbrev pub oneLength : ℕ → List ℕ
+oneLength numbers = numbers ∷ []
+
+-- out of `acceleration_neu` and `gravity_neu`, and of `tensor_neu`
+abbrev pub threeLengths : List ℕ
+threeLengths = oneLength 3
+
+abbrev pub nineLengths : List ℕ
+nineLengths = oneLength 9
 
 -- love, values, weights, latitudes, trig, work, c, s
 unfoldable pub analysisLengths : ℕ → List ℕ

@@ -29,8 +29,9 @@ use Rattle.quadrature.specs.Gauss.{gaussCheck}
 use Rattle.quadrature.specs.GaussLaws.{gauss-size}
 use Rattle.synthesis.specs.Grid.{gridCheck}
 use Rattle.synthesis.specs.Checks.{many-rows, many-longitudes, wrong-tables}
-use Rattle.local.specs.Point.{partialsCheck, alongCheck}
-use Rattle.partials.specs.Checks.{one-tables, many-points, many-tables}
+use Rattle.local.specs.Point.{alongCheckOf, partialsCheck, alongCheck}
+use Rattle.local.specs.Second.{secondCheck, secondAlongCheck}
+use Rattle.point_lists.specs.Checks.{point-tables, many-points, many-tables}
 use Rattle.analysis.specs.Analysis.{analysisCheck}
 use Rattle.analysis.specs.Checks.{large-degree}
 use Rattle.slepian.specs.Average.{averageCheck, check-size, check-field}
@@ -97,20 +98,32 @@ module _ (N : ℕ) (bad : Refused Size ≡ degreeSize N) where
   factor-limit f love gm radius r = factor-size f love N gm radius r large
 
   pub partials-limit : (c s trig work : ℕ) → Refused Size ≡ partialsCheck N c s trig work
-  partials-limit c s trig work = one-tables N c s trig work (tables-limit c s)
+  partials-limit c s trig work = point-tables 4 N c s trig work (tables-limit c s)
+
+  pub second-limit : (c s trig work : ℕ) → Refused Size ≡ secondCheck N c s trig work
+  second-limit c s trig work = point-tables 5 N c s trig work (tables-limit c s)
 
   pub analysis-limit : (values weights lats trig : ℕ) (lacks : Bool) (work c s : ℕ)
       → Refused Size ≡ analysisCheck N values weights lats trig lacks work c s
   analysis-limit values weights lats trig lacks work c s = large-degree N values weights lats trig lacks work c s large
 
 -- ---- calls with other sizes
+-- a call for many points
+points-limit : (k numbers N points c s radii lats trig work out : ℕ) → Refused Size ≡ alongSizes N points
+    → Refused Size ≡ alongCheckOf k numbers N c s points radii lats trig work out
+points-limit k numbers N points c s radii lats trig work out bad =
+    ⊎-elim
+    (λ p. many-points k numbers N c s points radii lats trig work out (beyond 65535 points p))
+    (λ q. many-tables k numbers N c s points radii lats trig work out (within 65535 points (q .0)) (tables-limit N (q .1) c s))
+    (either (sizeCheck 65535 points) _ bad)
+
 pub along-limit : (N points c s radii lats trig work out : ℕ) → Refused Size ≡ alongSizes N points
     → Refused Size ≡ alongCheck N c s points radii lats trig work out
-along-limit N points c s radii lats trig work out bad =
-    ⊎-elim
-    (λ p. many-points N c s points radii lats trig work out (beyond 65535 points p))
-    (λ q. many-tables N c s points radii lats trig work out (within 65535 points (q .0)) (tables-limit N (q .1) c s))
-    (either (sizeCheck 65535 points) _ bad)
+along-limit = points-limit 4 4
+
+pub second-along-limit : (N points c s radii lats trig work out : ℕ) → Refused Size ≡ alongSizes N points
+    → Refused Size ≡ secondAlongCheck N c s points radii lats trig work out
+second-along-limit = points-limit 5 10
 
 module _ (N rows longitudes c s lats trig : ℕ) (lacks : Bool) (work out : ℕ) where
   pub grid-limit : Refused Size ≡ gridSizes N rows longitudes → Refused Size ≡ gridCheck N c s rows lats longitudes trig lacks work out

@@ -5,7 +5,7 @@ ghost use mathlib.Core.Path.{_≡_};
 ghost use Prim.Native.Nat.{_*_, _≤_};
 ghost use Rattle.refusal.specs.declared.Answer.the-variants.{Done};
 ghost use Rattle.lengths.specs.Told.{sizeCheck, Told, Entries};
-ghost use Rattle.lengths.specs.Lengths.{degreeSize, tablesLengths, threeLengths, eigenLengths};
+ghost use Rattle.lengths.specs.Lengths.{degreeSize, alongSizes, tablesLengths, pointLengths, pointsLengths, oneLength, eigenLengths};
 
 // The entries of a table up to degree nmax.
 pub fn entries(nmax: usize) -> usize
@@ -51,11 +51,55 @@ pub fn tables(count: usize, nmax: usize, lengths: &mut [usize]) -> Answer
     tell(&told[..count], lengths)
 }
 
-// Tells the length of a list for north, east and up.
-pub fn three(lengths: &mut [usize]) -> Answer
-    ensures { λ x. ⌜ Told Done threeLengths x (now (lengths .entry)) (now (lengths .exit)) ⌝ }
+// Tells the lengths of the lists of a call for one point: so many tables of the working list, and so many numbers of the output.
+pub fn point(tables: usize, numbers: usize, nmax: usize, lengths: &mut [usize]) -> Answer
+    requires { ⌜ tables ≤ 5 ⌝ }
+    ensures { λ x. ⌜ Told (degreeSize nmax) (pointLengths tables numbers nmax) x (now (lengths .entry)) (now (lengths .exit)) ⌝ }
 {
-    let told = [3];
+    if nmax > storage::MAX_DEGREE {
+        return Answer::Refused(Refusal::Size);
+    }
+    let size = entries(nmax);
+    let told = [size, size, nmax + nmax + 2, tables * size, numbers];
+    tell(&told, lengths)
+}
+
+// The same for many points, with so many numbers of the output each.
+pub fn points(
+    tables: usize,
+    numbers: usize,
+    nmax: usize,
+    points: usize,
+    lengths: &mut [usize],
+) -> Answer
+    requires { ⌜ tables ≤ 5 ⌝ ∗ ⌜ numbers ≤ 10 ⌝ }
+    ensures { λ x. ⌜ Told (alongSizes nmax points) (pointsLengths tables numbers nmax points) x (now (lengths .entry)) (now (lengths .exit)) ⌝ }
+{
+    if points > point_lists::MAX_POINTS {
+        return Answer::Refused(Refusal::Size);
+    }
+    if nmax > storage::MAX_DEGREE {
+        return Answer::Refused(Refusal::Size);
+    }
+    let size = entries(nmax);
+    let trig = product(points, nmax + nmax + 2);
+    let told = [
+        size,
+        size,
+        points,
+        points + points,
+        trig,
+        tables * size,
+        numbers * points,
+    ];
+    tell(&told, lengths)
+}
+
+// Tells the length of the one list of a call that takes no size.
+pub fn one(numbers: usize, lengths: &mut [usize]) -> Answer
+    ensures { λ x. ⌜ Told Done (oneLength numbers) x (now (lengths .entry)) (now (lengths .exit)) ⌝ }
+{
+    let told = [numbers];
     tell(&told, lengths)
 }
 

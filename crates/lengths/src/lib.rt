@@ -12,7 +12,8 @@ ghost use Rattle.model_file.specs.Format.{headOf};
 ghost use Rattle.lengths.specs.Told.{sizeCheck, lengthsCheck, lengthsAfter};
 ghost use Rattle.lengths.specs.Lengths.{degreeSize, twoDegrees, gridSizes, alongSizes, readSizes, tablesLengths, factorLengths, truncatedLengths};
 ghost use Rattle.lengths.specs.Lengths.{variancesLengths, amplitudesLengths, readLengths, writeLengths, gaussLengths, gridLengths, averageLengths};
-ghost use Rattle.lengths.specs.Lengths.{partialsLengths, alongLengths, threeLengths, analysisLengths, eigenLengths, capLengths};
+ghost use Rattle.lengths.specs.Lengths.{partialsLengths, alongLengths, threeLengths, secondLengths, secondAlongLengths, nineLengths};
+ghost use Rattle.lengths.specs.Lengths.{analysisLengths, eigenLengths, capLengths};
 
 // `factor`: love.
 pub fn factor(n: usize, lengths: &mut [usize]) -> Answer
@@ -228,12 +229,7 @@ pub fn partials(nmax: usize, lengths: &mut [usize]) -> Answer
     ensures { λ x. ⌜ x ≡ lengthsCheck (degreeSize nmax) (partialsLengths nmax) (length (now (lengths .entry))) ⌝ }
     ensures { λ x. ⌜ now (lengths .exit) ≡ lengthsAfter (degreeSize nmax) (partialsLengths nmax) (now (lengths .entry)) ⌝ }
 {
-    if nmax > storage::MAX_DEGREE {
-        return Answer::Refused(Refusal::Size);
-    }
-    let size = leaves::entries(nmax);
-    let told = [size, size, nmax + nmax + 2, 4 * size, 4];
-    leaves::tell(&told, lengths)
+    leaves::point(4, 4, nmax, lengths)
 }
 
 // `partials_along`: c, s, radii, latitudes, trig, work, out.
@@ -241,24 +237,7 @@ pub fn partials_along(nmax: usize, points: usize, lengths: &mut [usize]) -> Answ
     ensures { λ x. ⌜ x ≡ lengthsCheck (alongSizes nmax points) (alongLengths nmax points) (length (now (lengths .entry))) ⌝ }
     ensures { λ x. ⌜ now (lengths .exit) ≡ lengthsAfter (alongSizes nmax points) (alongLengths nmax points) (now (lengths .entry)) ⌝ }
 {
-    if points > partials::MAX_POINTS {
-        return Answer::Refused(Refusal::Size);
-    }
-    if nmax > storage::MAX_DEGREE {
-        return Answer::Refused(Refusal::Size);
-    }
-    let size = leaves::entries(nmax);
-    let trig = leaves::product(points, nmax + nmax + 2);
-    let told = [
-        size,
-        size,
-        points,
-        points + points,
-        trig,
-        4 * size,
-        4 * points,
-    ];
-    leaves::tell(&told, lengths)
+    leaves::points(4, 4, nmax, points, lengths)
 }
 
 // `acceleration_neu`: out.
@@ -266,7 +245,7 @@ pub fn acceleration_neu(lengths: &mut [usize]) -> Answer
     ensures { λ x. ⌜ x ≡ lengthsCheck Done threeLengths (length (now (lengths .entry))) ⌝ }
     ensures { λ x. ⌜ now (lengths .exit) ≡ lengthsAfter Done threeLengths (now (lengths .entry)) ⌝ }
 {
-    leaves::three(lengths)
+    leaves::one(3, lengths)
 }
 
 // `gravity_neu`: out.
@@ -274,7 +253,31 @@ pub fn gravity_neu(lengths: &mut [usize]) -> Answer
     ensures { λ x. ⌜ x ≡ lengthsCheck Done threeLengths (length (now (lengths .entry))) ⌝ }
     ensures { λ x. ⌜ now (lengths .exit) ≡ lengthsAfter Done threeLengths (now (lengths .entry)) ⌝ }
 {
-    leaves::three(lengths)
+    leaves::one(3, lengths)
+}
+
+// `second_partials`: c, s, trig, work, out.
+pub fn second_partials(nmax: usize, lengths: &mut [usize]) -> Answer
+    ensures { λ x. ⌜ x ≡ lengthsCheck (degreeSize nmax) (secondLengths nmax) (length (now (lengths .entry))) ⌝ }
+    ensures { λ x. ⌜ now (lengths .exit) ≡ lengthsAfter (degreeSize nmax) (secondLengths nmax) (now (lengths .entry)) ⌝ }
+{
+    leaves::point(5, 10, nmax, lengths)
+}
+
+// `second_partials_along`: c, s, radii, latitudes, trig, work, out.
+pub fn second_partials_along(nmax: usize, points: usize, lengths: &mut [usize]) -> Answer
+    ensures { λ x. ⌜ x ≡ lengthsCheck (alongSizes nmax points) (secondAlongLengths nmax points) (length (now (lengths .entry))) ⌝ }
+    ensures { λ x. ⌜ now (lengths .exit) ≡ lengthsAfter (alongSizes nmax points) (secondAlongLengths nmax points) (now (lengths .entry)) ⌝ }
+{
+    leaves::points(5, 10, nmax, points, lengths)
+}
+
+// `tensor_neu`: out.
+pub fn tensor_neu(lengths: &mut [usize]) -> Answer
+    ensures { λ x. ⌜ x ≡ lengthsCheck Done nineLengths (length (now (lengths .entry))) ⌝ }
+    ensures { λ x. ⌜ now (lengths .exit) ≡ lengthsAfter Done nineLengths (now (lengths .entry)) ⌝ }
+{
+    leaves::one(9, lengths)
 }
 
 // `analysis`: love, values, weights, latitudes, trig, work, c, s.

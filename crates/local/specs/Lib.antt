@@ -1,2 +1,4 @@
 pub mod Point
 pub mod Local
+pub mod Second
+pub mod Symmetric

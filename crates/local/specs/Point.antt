@@ -106,24 +106,30 @@ unfoldable pub alongCell : (gm radius : Float) (N : ℕ) (c s trig radii lats : 
 alongCell gm radius N c s trig radii lats i =
     component (pointAt gm radius N c s trig i (getD radii i nan) (rowSine lats i) (rowCosine lats i))
 
--- ---- the checks
--- how many numbers of the working list a call may use: 4T
-abbrev pub workSize : ℕ → ℕ
-workSize N = 4 * tableSize N
-
+-- ---- the checks, of calls that may use k tables of the working list
 -- SIZE of the degree; LENGTH of c, s, and the cosines and sines; SPACE of the working list
-unfoldable pub partialsCheck : (nmax clen slen trig work : ℕ) → Answer
-partialsCheck nmax clen slen trig work =
+unfoldable pub pointCheckOf : (k nmax clen slen trig work : ℕ) → Answer
+pointCheckOf k nmax clen slen trig work =
     tablesCheck nmax clen slen
-    andThen refuse (not (eqb trig (nmax + nmax + 2))) Length (refuse (ltb work (workSize nmax)) Space Done)
+    andThen refuse (not (eqb trig (nmax + nmax + 2))) Length (refuse (ltb work (k * tableSize nmax)) Space Done)
 
 -- SIZE of the number of points and the degree; LENGTH of c, s, the radii, the pairs of the latitudes, the cosines and sines; SPACE of the working
--- list and the output
-unfoldable pub alongCheck : (nmax clen slen points radii lats trig work out : ℕ) → Answer
-alongCheck nmax clen slen points radii lats trig work out =
+-- list and of the output, so many numbers a point
+unfoldable pub alongCheckOf : (k numbers nmax clen slen points radii lats trig work out : ℕ) → Answer
+alongCheckOf k numbers nmax clen slen points radii lats trig work out =
     refuse (ltb 65535 points) Size
     (tablesCheck nmax clen slen
     andThen refuse (not (eqb radii points)) Length
     (refuse (not (eqb lats (points + points))) Length
     (refuse (not (eqb trig (points * (nmax + nmax + 2)))) Length
-    (refuse (ltb work (workSize nmax)) Space (refuse (ltb out (4 * points)) Space Done)))))
+    (refuse (ltb work (k * tableSize nmax)) Space (refuse (ltb out (numbers * points)) Space Done)))))
+
+-- how many numbers of the working list `partials` and `partials_along` may use: 4T
+abbrev pub workSize : ℕ → ℕ
+workSize N = 4 * tableSize N
+
+abbrev pub partialsCheck : (nmax clen slen trig work : ℕ) → Answer
+partialsCheck = pointCheckOf 4
+
+abbrev pub alongCheck : (nmax clen slen points radii lats trig work out : ℕ) → Answer
+alongCheck = alongCheckOf 4 4

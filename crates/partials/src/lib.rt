@@ -7,7 +7,6 @@ use legendre::Latitude;
 use local::Partials;
 use local::Point;
 use refusal::Answer;
-use refusal::Refusal;
 ghost use mathlib.Core.Path.{_≡_};
 ghost use Prim.Native.Nat.{ℕ, _*_};
 ghost use lib.ListN.{length};
@@ -15,67 +14,6 @@ ghost use Rattle.refusal.specs.Numbers.{after, behind};
 ghost use Rattle.storage.specs.Fill.{fill};
 ghost use Rattle.storage.specs.Rectangle.{byRows};
 ghost use Rattle.local.specs.Point.{pointOutcome, pointAt, pointIf, alongCell, workSize, partialsCheck, alongCheck};
-
-// The most points of a call.
-pub const MAX_POINTS: usize = 65535;
-
-// SIZE, LENGTH and SPACE, over the lengths of the lists.
-fn partials_check(nmax: usize, clen: usize, slen: usize, trig: usize, work: usize) -> Answer
-    ensures { λ x. ⌜ x ≡ partialsCheck nmax clen slen trig work ⌝ }
-{
-    match storage::tables_check(nmax, clen, slen) {
-        Answer::Refused(e) => Answer::Refused(e),
-        Answer::Done => {
-            if trig != nmax + nmax + 2 {
-                return Answer::Refused(Refusal::Length);
-            }
-            if work < 4 * clen {
-                return Answer::Refused(Refusal::Space);
-            }
-            Answer::Done
-        }
-    }
-}
-
-// The same for many points.
-fn along_check(
-    nmax: usize,
-    clen: usize,
-    slen: usize,
-    points: usize,
-    radii: usize,
-    lats: usize,
-    trig: usize,
-    work: usize,
-    out: usize,
-) -> Answer
-    ensures { λ x. ⌜ x ≡ alongCheck nmax clen slen points radii lats trig work out ⌝ }
-{
-    if points > MAX_POINTS {
-        return Answer::Refused(Refusal::Size);
-    }
-    match storage::tables_check(nmax, clen, slen) {
-        Answer::Refused(e) => Answer::Refused(e),
-        Answer::Done => {
-            if radii != points {
-                return Answer::Refused(Refusal::Length);
-            }
-            if lats != points + points {
-                return Answer::Refused(Refusal::Length);
-            }
-            if trig != points * (nmax + nmax + 2) {
-                return Answer::Refused(Refusal::Length);
-            }
-            if work < 4 * clen {
-                return Answer::Refused(Refusal::Space);
-            }
-            if out < 4 * points {
-                return Answer::Refused(Refusal::Space);
-            }
-            Answer::Done
-        }
-    }
-}
 
 // V and its derivatives at radius r and one latitude and longitude; `trig` has the cosine and the sine of m times the longitude for the orders m up
 // to N. No division by u: at a pole, where u is 0, the sums are what the recursion gives there.
@@ -95,7 +33,7 @@ pub fn partials(
         ≡ behind (pointOutcome x) (workSize (head .nmax)) (now (work .entry)) ⌝ }
     ensures { λ x. ⌜ length (now (work .exit)) ≡ length (now (work .entry)) ⌝ }
 {
-    match partials_check(head.nmax, c.len(), s.len(), trig.len(), work.len()) {
+    match point_lists::point_check(4, head.nmax, c.len(), s.len(), trig.len(), work.len()) {
         Answer::Refused(e) => Point::Refused(e),
         Answer::Done => {
             let radii = [r];
@@ -138,7 +76,9 @@ pub fn partials_along(
     ensures { λ x. ⌜ behind x (workSize (head .nmax)) (now (work .exit)) ≡ behind x (workSize (head .nmax)) (now (work .entry)) ⌝ }
     ensures { λ x. ⌜ length (now (work .exit)) ≡ length (now (work .entry)) ⌝ }
 {
-    match along_check(
+    match point_lists::along_check(
+        4,
+        4,
         head.nmax,
         c.len(),
         s.len(),

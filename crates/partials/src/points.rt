@@ -8,7 +8,8 @@ ghost use Rattle.storage.specs.Filled.{Filled};
 ghost use Rattle.storage.specs.Rectangle.{byRows};
 ghost use Rattle.recursion.specs.Recursion.{pmm};
 ghost use Rattle.local.specs.Point.{pointAt, component, alongCell};
-ghost use Rattle.point_sums.specs.Sums.{Tabled, PointRoom};
+ghost use Rattle.point_lists.specs.Tables.{Tabled};
+ghost use Rattle.point_sums.specs.Sums.{PointRoom};
 
 // V and its derivatives at point i, at radius r; the arrays that are lent to change are overwritten.
 fn point(

@@ -1,22 +1,11 @@
 // The lists that the points of a call share: the tables of the recursion and the weights of the derivative stand at the front of the working list, all
 // else in arrays that are made once a call and lent to every point. The last quarter of the working list is not needed.
 use coefficients::Head;
-ghost use mathlib.Core.Path.{_≡_};
-ghost use Prim.Native.Nat.{ℕ, _+_, _≤_, _<_};
+ghost use Prim.Native.Nat.{_+_, _<_};
 ghost use lib.ListN.{length};
-ghost use Rattle.storage.specs.Triangle.{tableSize};
-ghost use Rattle.partials.specs.Checks.{Accepted};
-ghost use Rattle.partials.specs.Promise.{withWeights, Made};
-
-// The tables of the recursion, then the weights.
-fn tables(nmax: usize, total: usize, work: &mut [f64])
-    requires { ⌜ nmax ≤ 2700 ⌝ ∗ ⌜ total ≡ tableSize nmax ⌝ ∗ ⌜ total + total + total ≤ length (now work) ⌝ }
-    ensures { λ _. ⌜ now (work .exit) ≡ withWeights nmax (now (work .entry)) ⌝ }
-{
-    recursion::tables(nmax, total, work);
-    let at = total + total;
-    derivative::weights(nmax, &mut work[at..]);
-}
+ghost use Rattle.local.specs.Point.{alongCell, workSize};
+ghost use Rattle.point_lists.specs.Checks.{Accepted};
+ghost use Rattle.point_lists.specs.Made.{Made};
 
 // The tables and the sectoral numbers, then all points; the arrays are overwritten.
 fn points_in(
@@ -27,6 +16,7 @@ fn points_in(
     radii: &[f64],
     latitudes: &[f64],
     trig: &[f64],
+    guesses: &mut [f64],
     sectorals: &mut [f64],
     rescales: &mut [f64],
     even: &mut [f64],
@@ -36,16 +26,19 @@ fn points_in(
     work: &mut [f64],
     out: &mut [f64],
 )
-    requires { ⌜ Accepted (head .nmax) (length (now c)) (length (now s)) points (length (now radii)) (length (now latitudes)) (length (now trig))
+    requires { ⌜ Accepted 4 4 (head .nmax) (length (now c)) (length (now s)) points (length (now radii)) (length (now latitudes)) (length (now trig))
         (length (now work)) (length (now out)) ⌝ }
-    requires { ⌜ head .nmax < length (now sectorals) ⌝ ∗ ⌜ head .nmax < length (now rescales) ⌝ ∗ ⌜ head .nmax < length (now even) ⌝ }
+    requires { ⌜ head .nmax + head .nmax + 1 < length (now guesses) ⌝ ∗ ⌜ head .nmax < length (now sectorals) ⌝ ∗ ⌜ head .nmax < length (now rescales) ⌝
+        ∗ ⌜ head .nmax < length (now even) ⌝ }
     requires { ⌜ head .nmax < length (now odd) ⌝ ∗ ⌜ head .nmax < length (now p) ⌝ ∗ ⌜ head .nmax < length (now d) ⌝ }
-    ensures { λ _. ⌜ Made (head .gm) (head .radius) (head .nmax) (now (c .entry)) (now (s .entry)) (now (trig .entry)) (now (radii .entry))
-        (now (latitudes .entry)) points (now (work .entry)) (now (work .exit)) (now (out .entry)) (now (out .exit)) ⌝ }
+    ensures { λ _. ⌜ Made
+        (alongCell (head .gm) (head .radius) (head .nmax) (now (c .entry)) (now (s .entry)) (now (trig .entry)) (now (radii .entry))
+        (now (latitudes .entry)))
+        4 (workSize (head .nmax)) points (now (work .entry)) (now (work .exit)) (now (out .entry)) (now (out .exit)) ⌝ }
 {
     let nmax = head.nmax;
     let total = c.len();
-    tables(nmax, total, work);
+    point_lists::tables(nmax, total, guesses, work);
     legendre::rows::sectorals(nmax, sectorals);
     let a = &work[..];
     let b = &a[total..];
@@ -85,11 +78,14 @@ fn points_short(
     work: &mut [f64],
     out: &mut [f64],
 )
-    requires { ⌜ Accepted (head .nmax) (length (now c)) (length (now s)) points (length (now radii)) (length (now latitudes)) (length (now trig))
+    requires { ⌜ Accepted 4 4 (head .nmax) (length (now c)) (length (now s)) points (length (now radii)) (length (now latitudes)) (length (now trig))
         (length (now work)) (length (now out)) ⌝ ∗ ⌜ head .nmax < 128 ⌝ }
-    ensures { λ _. ⌜ Made (head .gm) (head .radius) (head .nmax) (now (c .entry)) (now (s .entry)) (now (trig .entry)) (now (radii .entry))
-        (now (latitudes .entry)) points (now (work .entry)) (now (work .exit)) (now (out .entry)) (now (out .exit)) ⌝ }
+    ensures { λ _. ⌜ Made
+        (alongCell (head .gm) (head .radius) (head .nmax) (now (c .entry)) (now (s .entry)) (now (trig .entry)) (now (radii .entry))
+        (now (latitudes .entry)))
+        4 (workSize (head .nmax)) points (now (work .entry)) (now (work .exit)) (now (out .entry)) (now (out .exit)) ⌝ }
 {
+    let mut guesses = [0.0; 256];
     let mut sectorals = [0.0; 128];
     let mut rescales = [0.0; 128];
     let mut even = [0.0; 128];
@@ -104,6 +100,7 @@ fn points_short(
         radii,
         latitudes,
         trig,
+        &mut guesses,
         &mut sectorals,
         &mut rescales,
         &mut even,
@@ -127,11 +124,14 @@ fn points_long(
     work: &mut [f64],
     out: &mut [f64],
 )
-    requires { ⌜ Accepted (head .nmax) (length (now c)) (length (now s)) points (length (now radii)) (length (now latitudes)) (length (now trig))
+    requires { ⌜ Accepted 4 4 (head .nmax) (length (now c)) (length (now s)) points (length (now radii)) (length (now latitudes)) (length (now trig))
         (length (now work)) (length (now out)) ⌝ }
-    ensures { λ _. ⌜ Made (head .gm) (head .radius) (head .nmax) (now (c .entry)) (now (s .entry)) (now (trig .entry)) (now (radii .entry))
-        (now (latitudes .entry)) points (now (work .entry)) (now (work .exit)) (now (out .entry)) (now (out .exit)) ⌝ }
+    ensures { λ _. ⌜ Made
+        (alongCell (head .gm) (head .radius) (head .nmax) (now (c .entry)) (now (s .entry)) (now (trig .entry)) (now (radii .entry))
+        (now (latitudes .entry)))
+        4 (workSize (head .nmax)) points (now (work .entry)) (now (work .exit)) (now (out .entry)) (now (out .exit)) ⌝ }
 {
+    let mut guesses = [0.0; 5402];
     let mut sectorals = [0.0; 2701];
     let mut rescales = [0.0; 2701];
     let mut even = [0.0; 2701];
@@ -146,6 +146,7 @@ fn points_long(
         radii,
         latitudes,
         trig,
+        &mut guesses,
         &mut sectorals,
         &mut rescales,
         &mut even,
@@ -169,10 +170,12 @@ pub fn compute(
     work: &mut [f64],
     out: &mut [f64],
 )
-    requires { ⌜ Accepted (head .nmax) (length (now c)) (length (now s)) points (length (now radii)) (length (now latitudes)) (length (now trig))
+    requires { ⌜ Accepted 4 4 (head .nmax) (length (now c)) (length (now s)) points (length (now radii)) (length (now latitudes)) (length (now trig))
         (length (now work)) (length (now out)) ⌝ }
-    ensures { λ _. ⌜ Made (head .gm) (head .radius) (head .nmax) (now (c .entry)) (now (s .entry)) (now (trig .entry)) (now (radii .entry))
-        (now (latitudes .entry)) points (now (work .entry)) (now (work .exit)) (now (out .entry)) (now (out .exit)) ⌝ }
+    ensures { λ _. ⌜ Made
+        (alongCell (head .gm) (head .radius) (head .nmax) (now (c .entry)) (now (s .entry)) (now (trig .entry)) (now (radii .entry))
+        (now (latitudes .entry)))
+        4 (workSize (head .nmax)) points (now (work .entry)) (now (work .exit)) (now (out .entry)) (now (out .exit)) ⌝ }
 {
     if head.nmax < 128 {
         points_short(head, c, s, points, radii, latitudes, trig, work, out);

@@ -10,13 +10,14 @@ use lib.Ieee.{Float, nan, binary64, ofBits}
 use Rattle.number.specs.Float64.{_⊕_, _⊖_, _⊗_, _⊘_, ofWhole, zero64, one64}
 use Rattle.storage.specs.Elements.{from}
 use Rattle.storage.specs.Filled.{Filled, filled-in}
-use Rattle.storage.specs.Triangle.{rowStart, idx, tableSize, cells, along, row-start-zero, row-start-more, idx-within, along-idx}
+use Rattle.storage.specs.Triangle.{rowStart, idx, tableSize, cells, along, idx-within, along-idx}
 use Rattle.recursion.specs.Recursion.{aCell, bCell, pCell, pmm, rescale}
 use Rattle.legendre.specs.Rows.{nextRow, scaledRow, UpToRow, up-to-none, up-to-more, scaled-row-is}
 use Rattle.derivative.specs.Derivative.{dpCell, weightCell, derivedRow, derived-row-is}
 use Rattle.legendre.specs.Directions.{cosines, sines}
 use Rattle.rounding.specs.Sums.{zero⁺, runningSum}
 use Rattle.rounding.specs.SumSteps.{running-none, running-more, running-same}
+use Rattle.point_lists.specs.Tables.{Tabled}
 use Rattle.local.specs.declared.Partials.{Partials}
 use Rattle.point_sums.specs.declared.DegreeSums.{DegreeSums}
 use Rattle.local.specs.Point.{evenTerm, eastTerm, orderSum, evenRow, eastRow, runningPower, degreeTerm, degreeSum, radialSum, partialsOf, pointAt}
@@ -74,6 +75,12 @@ module _ (p d c s cos sin : ℕ → Float) where
   orders-all n below e = rw (← e) (below .of-p, (below .of-d, below .of-m))
 
 -- ---- the degrees
+-- rows that agree in the degrees below k have the same sums
+pub degree-same : (q : Float) (row row′ : ℕ → Float) (k : ℕ) → ((n : ℕ) → n < k → row n ≡ row′ n) → degreeSum q row k ≡ degreeSum q row′ k
+unfolding degreeSum degreeTerm
+degree-same q row row′ k e =
+    running-same binary64 (degreeTerm q row) (degreeTerm q row′) k zero⁺ (λ n h. ap (λ (x : Float). runningPower q n ⊗ x) (e n h))
+
 -- the sums x with those of degree n over its orders added
 abbrev pub withRow : (n : ℕ) (q even north east : Float) → DegreeSums → DegreeSums
 withRow n q even north east x = record {
@@ -130,12 +137,6 @@ with-degree-same n q c s cos sin {p} {p′} {d} {d′} x ep ed =
     ∙ ap₂ (λ (y z : Float). withRow n q (orderSum (evenTerm p′ c s cos sin) n) y z x) north east
 
 -- ---- the lists that a point is worked out in
--- a, b and w hold the recursion coefficients and the weights of the derivative up to degree N
-pub record Tabled (N : ℕ) (a b w : List Float) : Type 0 where
-  pub of-a : (k : ℕ) → k < tableSize N → getD a k nan ≡ along aCell k
-  pub of-b : (k : ℕ) → k < tableSize N → getD b k nan ≡ along bCell k
-  pub of-w : (k : ℕ) → k < tableSize N → getD w k nan ≡ along weightCell k
-
 -- the lists, by their lengths, have room for the degrees and orders up to nmax
 pub record PointRoom (nmax a b w c s sectorals r even odd p d : ℕ) : Type 0 where
   pub top : nmax ≤ 2700
@@ -196,6 +197,22 @@ pub record DegreeFits (n N : ℕ) (sectorals r newer older p d : List Float) : T
   pub of-p : n < length p
   pub of-d : n < length d
 
+-- row n of the recursion, where a, b and the sectoral numbers stand in lists
+next-rows : {n at N : ℕ} {t : Float} {a b w sectorals newer older l : List Float} → UpToRow (along aCell) (along bCell) t n at newer older
+    → Tabled N a b w → Filled 0 pmm (N + 1) sectorals sectorals → n ≤ N → n < length sectorals → n ≤ length newer → n < length older
+    → Filled 0 (nextRow n at t (getD sectorals n nan) a b newer older) (n + 1) older l
+    → UpToRow (along aCell) (along bCell) t (n + 1) (at + n + 1) l newer
+next-rows {n} {at} {N} {a = a} {b} below tabled sectoral h hs hn ho r =
+    up-to-more below a b (λ m g. tabled .of-a (idx n m) (idx-within n m N (omega arith) (omega arith)))
+    (λ m g. tabled .of-b (idx n m) (idx-within n m N (omega arith) (omega arith)))
+    (filled-in {j = n} nan sectoral (omega arith) (sym (zero-add n)) hs) hn (omega arith) r refl refl
+
+-- the weights of degree n, where they stand in a list
+pub weights-at : {n at N : ℕ} {a b w : List Float} → at ≡ rowStart n → Tabled N a b w → n ≤ N → (m : ℕ) → m ≤ n → from at w nan m ≡ weightCell n m
+unfolding from
+weights-at {n} {at} {N} {w = w} e tabled h m g =
+    ap (λ (i : ℕ). getD w (i + m) nan) e ∙ tabled .of-w (idx n m) (idx-within n m N g h) ∙ along-idx weightCell n m g
+
 -- with degree n added
 module _ {n at N : ℕ} {q t u : Float} {k : ℕ} {a b w c s trig sectorals newer older r p d l p′ d′ : List Float} {x x′ : DegreeSums} where
   pub degrees-more : {n′ at′ : ℕ} → DegreesBelow n at q t u k c s trig newer older x → Tabled N a b w → Filled 0 pmm (N + 1) sectorals sectorals
@@ -210,18 +227,13 @@ module _ {n at N : ℕ} {q t u : Float} {k : ℕ} {a b w c s trig sectorals newe
       let dP = dpCell (along aCell) (along bCell) t u in
       let cos = cosineFrom k trig in
       let sin = sineFrom k trig in
-      let rows =
-      up-to-more (below .rows) a b (λ m g. tabled .of-a (idx n m) (idx-within n m N (omega arith) (omega arith)))
-      (λ m g. tabled .of-b (idx n m) (idx-within n m N (omega arith) (omega arith)))
-      (filled-in {j = n} nan sectoral (omega arith) (sym (zero-add n)) (omega arith)) (omega arith) (omega arith) rq refl refl in
+      let rows = next-rows (below .rows) tabled sectoral (room .degree) (room .of-sectorals) (room .of-newer) (room .of-older) rq in
       let row : (m : ℕ) → m ≤ n → from 0 p′ nan m ≡ P n m =
       λ m g. filled-in {j = m} nan rp (omega arith) refl (omega arith)
       ∙ scaled-row-is u (rows .last) powers (omega arith) (omega arith) (omega arith) m g in
-      let weights : (m : ℕ) → m ≤ n → from at w nan m ≡ weightCell n m =
-      λ m g. ap (λ (i : ℕ). getD w (i + m) nan) (below .rows .start) ∙ tabled .of-w (idx n m) (idx-within n m N g (omega arith)) ∙ along-idx weightCell n m g in
       let derived : (m : ℕ) → m ≤ n → from 0 d′ nan m ≡ dP n m =
       λ m g. filled-in {j = m} nan rd (omega arith) refl (omega arith)
-      ∙ derived-row-is P n (from at w nan) (from 0 p′ nan) (omega arith) weights row m g in
+      ∙ derived-row-is P n (from at w nan) (from 0 p′ nan) (omega arith) (weights-at (below .rows .start) tabled (room .degree)) row m g in
       rw (en, ea) record {
         rows = rows;
         are =

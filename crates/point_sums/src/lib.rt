@@ -10,7 +10,8 @@ ghost use Rattle.recursion.specs.Recursion.{pmm, rescale};
 ghost use Rattle.legendre.specs.Rows.{nextRow, scaledRow};
 ghost use Rattle.derivative.specs.Derivative.{derivedRow};
 ghost use Rattle.local.specs.Point.{evenTerm, eastTerm, orderSum};
-ghost use Rattle.point_sums.specs.Sums.{cosineFrom, sineFrom, withRow, withDegree, Tabled, PointRoom, pointSums};
+ghost use Rattle.point_lists.specs.Tables.{Tabled};
+ghost use Rattle.point_sums.specs.Sums.{cosineFrom, sineFrom, withRow, withDegree, PointRoom, pointSums};
 
 // The sums of one degree over its orders: of P, of its derivative by latitude, and of its derivative by longitude.
 pub struct RowSums {

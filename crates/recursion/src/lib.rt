@@ -138,11 +138,25 @@ pub fn b_table(nmax: usize, b: &mut [f64])
     }
 }
 
-// The tables a and b of the recursion, one after the other at the front of the working list.
+// The tables a and b of the recursion, one after the other at the front of the working list; `guesses` is overwritten.
+pub fn tables_by(nmax: usize, total: usize, guesses: &mut [f64], work: &mut [f64])
+    requires { ⌜ nmax ≤ 2700 ⌝ ∗ ⌜ total ≡ tableSize nmax ⌝ ∗ ⌜ nmax + nmax < length (now guesses) ⌝ ∗ ⌜ total + total ≤ length (now work) ⌝ }
+    ensures { λ _. ⌜ now (work .exit) ≡ withTables nmax (now (work .entry)) ⌝ }
+{
+    a_rows(nmax, guesses, work);
+    b_rows(nmax, guesses, &mut work[total..]);
+}
+
+// The same with a table of guesses of its own, short for a low degree.
 pub fn tables(nmax: usize, total: usize, work: &mut [f64])
     requires { ⌜ nmax ≤ 2700 ⌝ ∗ ⌜ total ≡ tableSize nmax ⌝ ∗ ⌜ total + total ≤ length (now work) ⌝ }
     ensures { λ _. ⌜ now (work .exit) ≡ withTables nmax (now (work .entry)) ⌝ }
 {
-    a_table(nmax, work);
-    b_table(nmax, &mut work[total..]);
+    if nmax < 128 {
+        let mut guesses = [0.0; 256];
+        tables_by(nmax, total, &mut guesses, work);
+    } else {
+        let mut guesses = [0.0; 5401];
+        tables_by(nmax, total, &mut guesses, work);
+    }
 }

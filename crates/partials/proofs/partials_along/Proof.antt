@@ -1,5 +1,5 @@
 -- `partials_along` meets its contract: past the checks the points are written. Assumes nothing.
-use Rattle.partials.specs.Checks.{accepted}
+use Rattle.point_lists.specs.Checks.{many-accepted}
 use mathlib.Core.Path.{refl, sym, _∙_}
 use borrow.Author.Needs.{needs}
 use Rattle.partials.proofs.partials_along.Statement.{statement}
@@ -8,7 +8,7 @@ use Rattle.partials.proofs.partials_along.Tie as tie
 compute-requires : tie.Need-compute-requires
 compute-requires c κs =
     let along-check = c .before .before .before .before .along-check in
-    accepted _ _ _ _ _ _ _ _ _ (sym (c .before .before .enum-told .given .1) ∙ along-check .ensures)
+    many-accepted 4 4 _ _ _ _ _ _ _ _ _ (sym (c .before .before .enum-told .given .1) ∙ along-check .ensures)
 
 returns : tie.Need-returns
 returns c = (sym (c .before .e .given .1) ∙ c .before .before .before .along-check .ensures, (refl, (refl, refl)))

@@ -1,5 +1,5 @@
 -- `geopotential_acceleration_neu` meets its contract. Assumes nothing.
-use Rattle.geopotential.specs.Points.{three-short, three-done}
+use Rattle.geopotential.specs.Points.{out-short, out-done}
 use Rattle.storage.specs.Elements.{from}
 use Rattle.storage.specs.Fill.{fill}
 use mathlib.Core.List.{List}
@@ -11,14 +11,14 @@ use Rattle.geopotential.proofs.points.geopotential_acceleration_neu.Sta
 use Rattle.geopotential.proofs.points.geopotential_acceleration_neu.Tie as tie
 
 returns : tie.Need-returns
-returns c = let e = three-short _ (c .if1 .taken) in (rw (← e) refl, rw (← e) refl)
+returns c = let e = out-short 3 _ (c .if1 .taken) in (rw (← e) refl, rw (← e) refl)
 
 same-length : tie.Need-same-length
 same-length c = c .before .before .store-three .ensures .long
 
 returns-2 : tie.Need-returns-2
 returns-2 c =
-    let e = three-done _ (c .before .before .before .before .before .before .if1 .left) in (
+    let e = out-done 3 _ (c .before .before .before .before .before .before .if1 .left) in (
       rw (← e) refl,
       rw (← e) (c .before .before .store-three .ensures .is ∙ ap (λ (l : List Float). fill 0 (from 0 l nan) 3
           (c .before .before .before .before .before .before .before .before .args .out .now))

@@ -24,7 +24,7 @@ returns c =
     let c1 = c .before .before .before .before .before .before .before .before .before .before .before .before in
     let a = c1 .before .before .before .args in
     let f = c .before .before .before .before .before .partials-along in
-    let e = f .ensures .0 ∙ one-check (a .nmax) _ _ _ _ _ in (
+    let e = f .ensures .0 ∙ one-check 4 4 (a .nmax) _ _ _ _ _ in (
       rw (← e) (c .answer-number .ensures),
       (
         rw (← e)

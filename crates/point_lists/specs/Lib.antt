@@ -1,0 +1,4 @@
+pub mod Checks
+pub mod Tables
+pub mod Made
+pub mod Alone

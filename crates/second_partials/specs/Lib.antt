@@ -1,0 +1,3 @@
+pub mod Working
+pub mod Promise
+pub mod Laws
