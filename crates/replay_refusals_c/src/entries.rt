@@ -7,6 +7,9 @@ use geopotential::models::geopotential_degree_amplitudes;
 use geopotential::points::geopotential_acceleration_neu;
 use geopotential::points::geopotential_gravity_neu;
 use geopotential::points::geopotential_partials;
+use geopotential::tensors::geopotential_second_partials;
+use geopotential::tensors::geopotential_second_partials_along;
+use geopotential::tensors::geopotential_tensor_neu;
 use replay_cases::MARK;
 use replay_cases::column;
 use replay_cases::room;
@@ -152,8 +155,9 @@ pub fn analysis(case: &[u64], list: &[f64], w: &mut [f64], x: &mut [f64], y: &mu
     number as u64
 }
 
-// N, and the lengths of c, s, of the cosines and sines, of the working list and the output.
-pub fn partials(case: &[u64], list: &[f64], w: &mut [f64], x: &mut [f64]) -> u64
+// One point by the entry for the first derivatives, or by that for the second: N, and the lengths of c, s, of the cosines and sines, of the working list
+// and the output.
+pub fn partials(second: bool, case: &[u64], list: &[f64], w: &mut [f64], x: &mut [f64]) -> u64
     requires { ⌜ (64 ≤ length (now list)) × (64 ≤ length (now w)) × (64 ≤ length (now x)) ⌝ }
 {
     let nmax = size(case, 0);
@@ -162,15 +166,51 @@ pub fn partials(case: &[u64], list: &[f64], w: &mut [f64], x: &mut [f64]) -> u64
     let g = room(case, 3);
     let k = room(case, 4);
     let o = room(case, 5);
-    let number = geopotential_partials(
+    let c = &list[..a];
+    let s = &list[..b];
+    let trig = &list[..g];
+    let work = &mut w[..k];
+    let out = &mut x[..o];
+    if second {
+        return geopotential_second_partials(
+            3.5,
+            7.25,
+            nmax,
+            c,
+            s,
+            8.0,
+            0.6,
+            0.8,
+            trig,
+            work,
+            out,
+        ) as u64;
+    }
+    geopotential_partials(3.5, 7.25, nmax, c, s, 8.0, 0.6, 0.8, trig, work, out) as u64
+}
+
+// N, points, and the lengths of c, s, radii, latitudes, of the cosines and sines, of the working list and the output.
+pub fn second_partials_along(case: &[u64], list: &[f64], w: &mut [f64], x: &mut [f64]) -> u64
+    requires { ⌜ (64 ≤ length (now list)) × (64 ≤ length (now w)) × (64 ≤ length (now x)) ⌝ }
+{
+    let nmax = size(case, 0);
+    let points = size(case, 1);
+    let a = room(case, 2);
+    let b = room(case, 3);
+    let r = room(case, 4);
+    let t = room(case, 5);
+    let g = room(case, 6);
+    let k = room(case, 7);
+    let o = room(case, 8);
+    let number = geopotential_second_partials_along(
         3.5,
         7.25,
         nmax,
         &list[..a],
         &list[..b],
-        8.0,
-        0.6,
-        0.8,
+        points,
+        &list[..r],
+        &list[..t],
         &list[..g],
         &mut w[..k],
         &mut x[..o],
@@ -191,4 +231,26 @@ pub fn gravity_neu(case: &[u64], x: &mut [f64]) -> u64
 {
     let o = room(case, 0);
     geopotential_gravity_neu(1.0, 2.0, 3.0, 4.0, 8.0, 0.6, 0.8, 0.5, &mut x[..o]) as u64
+}
+
+pub fn tensor_neu(case: &[u64], x: &mut [f64]) -> u64
+    requires { ⌜ 64 ≤ length (now x) ⌝ }
+{
+    let o = room(case, 0);
+    geopotential_tensor_neu(
+        1.0,
+        2.0,
+        3.0,
+        4.0,
+        5.0,
+        6.0,
+        7.0,
+        8.0,
+        9.0,
+        10.0,
+        8.0,
+        0.6,
+        0.8,
+        &mut x[..o],
+    ) as u64
 }

@@ -29,9 +29,12 @@ fn answer(
         2 => entries::grid(case, list, w, x),
         3 => entries::basin_average(case, list, x),
         4 => entries::analysis(case, list, w, x, y),
-        5 => entries::partials(case, list, w, x),
-        6 => entries::acceleration_neu(case, x),
-        _ => entries::gravity_neu(case, x),
+        5 => entries::partials(false, case, list, w, x),
+        6 => entries::partials(true, case, list, w, x),
+        7 => entries::second_partials_along(case, list, w, x),
+        8 => entries::acceleration_neu(case, x),
+        9 => entries::gravity_neu(case, x),
+        _ => entries::tensor_neu(case, x),
     }
 }
 
@@ -51,8 +54,8 @@ fn show_numbers(which: usize, case: &[u64]) -> Seen {
 
 fn show(which: usize, case: &[u64]) -> Seen {
     match which {
-        8 => model_files::show_read(case),
-        9 => model_files::show_write(case),
+        11 => model_files::show_read(case),
+        12 => model_files::show_write(case),
         _ => show_numbers(which, case),
     }
 }
@@ -98,17 +101,30 @@ fn main() {
     );
     print(b"analysis ", 4, &cases::ANALYSIS, &cases::ANALYSIS_DUE);
     print(b"partials ", 5, &cases::PARTIALS, &cases::PARTIALS_DUE);
-    print(b"acceleration_neu ", 6, &cases::THREE, &cases::THREE_DUE);
-    print(b"gravity_neu ", 7, &cases::THREE, &cases::THREE_DUE);
+    print(
+        b"second_partials ",
+        6,
+        &cases::SECOND_PARTIALS,
+        &cases::SECOND_PARTIALS_DUE,
+    );
+    print(
+        b"second_partials_along ",
+        7,
+        &cases::SECOND_PARTIALS_ALONG,
+        &cases::SECOND_PARTIALS_ALONG_DUE,
+    );
+    print(b"acceleration_neu ", 8, &cases::THREE, &cases::THREE_DUE);
+    print(b"gravity_neu ", 9, &cases::THREE, &cases::THREE_DUE);
+    print(b"tensor_neu ", 10, &cases::NINE, &cases::NINE_DUE);
     print(
         b"model_read ",
-        8,
+        11,
         &cases::MODEL_READ,
         &cases::MODEL_READ_DUE,
     );
     print(
         b"model_write ",
-        9,
+        12,
         &cases::MODEL_WRITE,
         &cases::MODEL_WRITE_DUE,
     );

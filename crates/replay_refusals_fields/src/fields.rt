@@ -1,12 +1,9 @@
-// The calls of synthesis, slepian, partials and analysis, each on the sizes and lengths of a case: parts of `list` are its inputs, parts of x and y its
+// The calls of synthesis, slepian and analysis, each on the sizes and lengths of a case: parts of `list` are its inputs, parts of x and y its
 // outputs, and of w its working list.
 use analysis::analysis;
 use coefficients::Date;
 use coefficients::Head;
 use coefficients::TideSystem;
-use legendre::Latitude;
-use local::Point;
-use refusal::Number;
 use replay_cases::functional;
 use replay_cases::room;
 use replay_cases::size;
@@ -76,57 +73,6 @@ pub fn basin_average(case: &[u64], list: &[f64]) -> u64
         f,
         &list[..l],
         8.0,
-    ))
-}
-
-fn of_point(a: Point) -> u64 {
-    local::point_number(a) as u64
-}
-
-// N, and the lengths of c, s, of the cosines and sines and of the working list.
-pub fn point(case: &[u64], list: &[f64], w: &mut [f64]) -> u64
-    requires { ⌜ (64 ≤ length (now list)) × (64 ≤ length (now w)) ⌝ }
-{
-    let head = head_of(size(case, 0));
-    let a = room(case, 1);
-    let b = room(case, 2);
-    let g = room(case, 3);
-    let k = room(case, 4);
-    let latitude = Latitude { t: 0.6, u: 0.8 };
-    of_point(partials::partials(
-        head,
-        &list[..a],
-        &list[..b],
-        8.0,
-        latitude,
-        &list[..g],
-        &mut w[..k],
-    ))
-}
-
-// N, points, and the lengths of c, s, radii, latitudes, of the cosines and sines, of the working list and the output.
-pub fn along(case: &[u64], list: &[f64], w: &mut [f64], x: &mut [f64]) -> u64
-    requires { ⌜ (64 ≤ length (now list)) × (64 ≤ length (now w)) × (64 ≤ length (now x)) ⌝ }
-{
-    let head = head_of(size(case, 0));
-    let points = size(case, 1);
-    let a = room(case, 2);
-    let b = room(case, 3);
-    let r = room(case, 4);
-    let t = room(case, 5);
-    let g = room(case, 6);
-    let k = room(case, 7);
-    let o = room(case, 8);
-    replay_cases::of_answer(partials::partials_along(
-        head,
-        &list[..a],
-        &list[..b],
-        points,
-        &list[..r],
-        &list[..t],
-        &list[..g],
-        &mut w[..k],
-        &mut x[..o],
     ))
 }
 

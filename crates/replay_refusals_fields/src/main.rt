@@ -28,11 +28,9 @@ fn answer(
     match which {
         0 => fields::grid(case, list, w, x),
         1 => fields::basin_average(case, list),
-        2 => fields::point(case, list, w),
-        3 => fields::along(case, list, w, x),
-        4 => fields::model(case, list, w, x, y),
-        5 => matrices::symmetric_eigen(case, list, w, x, y),
-        6 => matrices::householder_ql(case, list, w, x, y),
+        2 => fields::model(case, list, w, x, y),
+        3 => matrices::symmetric_eigen(case, list, w, x, y),
+        4 => matrices::householder_ql(case, list, w, x, y),
         _ => matrices::cap(case, list, w, x, y, z),
     }
 }
@@ -133,26 +131,19 @@ fn main() {
         &cases::BASIN_AVERAGE,
         &cases::BASIN_AVERAGE_DUE,
     );
-    print(b"partials ", 2, &cases::PARTIALS, &cases::PARTIALS_DUE);
-    print(
-        b"partials_along ",
-        3,
-        &cases::PARTIALS_ALONG,
-        &cases::PARTIALS_ALONG_DUE,
-    );
-    print(b"analysis ", 4, &cases::ANALYSIS, &cases::ANALYSIS_DUE);
+    print(b"analysis ", 2, &cases::ANALYSIS, &cases::ANALYSIS_DUE);
     print(
         b"symmetric_eigen ",
-        5,
+        3,
         &cases::SYMMETRIC_EIGEN,
         &cases::SYMMETRIC_EIGEN_DUE,
     );
     print(
         b"householder_ql ",
-        6,
+        4,
         &cases::HOUSEHOLDER_QL,
         &cases::HOUSEHOLDER_QL_DUE,
     );
-    print(b"polar_cap ", 7, &cases::POLAR_CAP, &cases::POLAR_CAP_DUE);
+    print(b"polar_cap ", 5, &cases::POLAR_CAP, &cases::POLAR_CAP_DUE);
     print_heads();
 }

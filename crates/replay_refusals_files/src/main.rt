@@ -177,6 +177,12 @@ fn main() {
         &cases::READ_VERDICT_DUE,
     );
     print(
+        b"read, other copies with short lists ",
+        0,
+        &cases::READ_TOO_SHORT,
+        &cases::READ_TOO_SHORT_DUE,
+    );
+    print(
         b"read of a dated file ",
         2,
         &cases::READ_DATED,
@@ -187,6 +193,12 @@ fn main() {
         3,
         &cases::READ_DATED,
         &cases::READ_DATED_VERDICT_DUE,
+    );
+    print(
+        b"read of a dated file, other copies with short lists ",
+        2,
+        &cases::READ_DATED_TOO_SHORT,
+        &cases::READ_DATED_TOO_SHORT_DUE,
     );
     print(b"write ", 4, &cases::WRITE, &cases::WRITE_DUE);
     print(

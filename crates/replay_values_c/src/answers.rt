@@ -516,3 +516,100 @@ pub const WRITE_LENGTHS_LARGE: [u64; 5] = [0, 3649051, 3649051, 62033892, 1234];
 
 // of a file of degree 2701 with a date
 pub const WRITE_LENGTHS_BEYOND: [u64; 5] = [1, 1234, 1234, 1234, 1234];
+
+// ten numbers of the field at a point, and the mark behind them
+pub const SECOND_PARTIALS: [u64; 11] = [
+    0x4013_8cd1_5d37_5aeb,
+    0xbff2_acd1_5d37_5aeb,
+    0xbff9_ee53_c3d8_8ac7,
+    0xbfe5_18ac_488d_753c,
+    0x3fdb_933a_0bd3_0861,
+    0xc011_ccd1_5d37_5aed,
+    0xc00d_01ec_e3c2_8134,
+    0x3fd9_ee53_c3d8_8ac7,
+    0x3fc5_18ac_488d_753c,
+    0x3fdf_a502_6cd4_2fdc,
+    0x4093_4a00_0000_0000,
+];
+
+// those of two points
+pub const SECOND_PARTIALS_ALONG: [u64; 21] = [
+    0x4013_8cd1_5d37_5aeb,
+    0xbff2_acd1_5d37_5aeb,
+    0xbff9_ee53_c3d8_8ac7,
+    0xbfe5_18ac_488d_753c,
+    0x3fdb_933a_0bd3_0861,
+    0xc011_ccd1_5d37_5aed,
+    0xc00d_01ec_e3c2_8134,
+    0x3fd9_ee53_c3d8_8ac7,
+    0x3fc5_18ac_488d_753c,
+    0x3fdf_a502_6cd4_2fdc,
+    0x3fe5_03d7_0a80_2420,
+    0xbfb9_7738_88d2_24bc,
+    0x3ff1_940f_e87d_cf9b,
+    0xc008_af3c_777f_a641,
+    0x3f9b_fcac_7bb5_8126,
+    0xbfd2_7378_2ff2_cf00,
+    0xbfe1_f3ce_e28b_61a0,
+    0xbfcd_9b0d_51ab_7899,
+    0x3fe4_c976_49ae_dcd8,
+    0xbfec_cc71_3614_eca5,
+    0x4093_4a00_0000_0000,
+];
+
+// the tensor of the first point
+pub const TENSOR_NEU: [u64; 10] = [
+    0xbfcb_933a_0bd3_0862,
+    0x3c4e_0000_0000_0000,
+    0x3fb3_72be_d2e2_6815,
+    0x3c4e_0000_0000_0000,
+    0xbfcb_933a_0bd3_0860,
+    0x3fa3_c721_8404_9de8,
+    0x3fb3_72be_d2e2_6815,
+    0x3fa3_c721_8404_9de8,
+    0x3fdb_933a_0bd3_0861,
+    0x4093_4a00_0000_0000,
+];
+
+// what is told of a point of degree 3, with 6 places
+pub const SECOND_LENGTHS: [u64; 7] = [0, 10, 10, 8, 50, 10, 1234];
+
+// what is told of a point of degree 2700, with 6 places
+pub const SECOND_LENGTHS_LARGE: [u64; 7] = [0, 3649051, 3649051, 5402, 18245255, 10, 1234];
+
+// what is told of a point of degree 2701, with 6 places
+pub const SECOND_LENGTHS_BEYOND: [u64; 7] = [1, 1234, 1234, 1234, 1234, 1234, 1234];
+
+// what is told of a point of degree 3, with 4 places
+pub const SECOND_LENGTHS_SHORT: [u64; 5] = [3, 1234, 1234, 1234, 1234];
+
+// what is told of 2 points of degree 3, with 8 places
+pub const ALONG_LENGTHS: [u64; 9] = [0, 10, 10, 2, 4, 16, 50, 20, 1234];
+
+// what is told of 65535 points of degree 2700, with 8 places
+pub const ALONG_LENGTHS_LARGE: [u64; 9] = [
+    0,
+    3649051,
+    3649051,
+    65535,
+    131070,
+    354020070,
+    18245255,
+    655350,
+    1234,
+];
+
+// what is told of 2 points of degree 2701, with 8 places
+pub const ALONG_LENGTHS_BEYOND: [u64; 9] = [1, 1234, 1234, 1234, 1234, 1234, 1234, 1234, 1234];
+
+// what is told of 65536 points of degree 3, with 8 places
+pub const ALONG_LENGTHS_MANY: [u64; 9] = [1, 1234, 1234, 1234, 1234, 1234, 1234, 1234, 1234];
+
+// what is told of 2 points of degree 3, with 6 places
+pub const ALONG_LENGTHS_SHORT: [u64; 7] = [3, 1234, 1234, 1234, 1234, 1234, 1234];
+
+// what is told of a tensor, with 2 places
+pub const TENSOR_LENGTHS: [u64; 3] = [0, 9, 1234];
+
+// what is told of a tensor, with 0 places
+pub const TENSOR_LENGTHS_SHORT: [u64; 1] = [3];

@@ -1,5 +1,7 @@
-// Replays what some entries for C hand on (values.rt) and what the two for model files tell of their lists (told.rt), against answers.rt.
+// Replays what some entries for C hand on (values.rt), what the two for model files tell of their lists (told.rt), and both of the entries for the second
+// derivatives (tensors.rt), against answers.rt.
 mod answers;
+mod tensors;
 mod told;
 mod values;
 
@@ -7,4 +9,5 @@ fn main() {
     replay_cases::control();
     values::show_values();
     told::show_told();
+    tensors::show_tensors();
 }

@@ -5,7 +5,7 @@ use geopotential::lists::geopotential_model_write_lengths;
 use replay_cases::print_line;
 
 // What stands in a list of lengths before a call.
-const MARK_LENGTH: usize = 1234;
+pub const MARK_LENGTH: usize = 1234;
 
 // What is told of the lists of a file: the number, and a list with one place behind them.
 fn read_lengths(bytes: &[u8]) -> [u64; 6] {
