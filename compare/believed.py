@@ -92,12 +92,12 @@ def believed(source, contract):
 
 
 # What helps the calls and has no requires either: numbers of answers, places, checks over sizes.
-HELPERS = re.compile(r"storage::|refusal::|(?:answer|refusal|index|model|reading|point|tide)_number$|tide_of|lacks_love|element_or_nan")
+HELPERS = re.compile(r"storage::|refusal::|(?:answer|refusal|index|model|reading|point|second|tide)_number$|tide_of|lacks_love|element_or_nan")
 
 PAGE = """# What a reader must believe
 
-A **public call** is a function that document 01 names, or that stands beside those it names (`root_near`, `partials_along`, the lengths): it has no
-`requires` and answers every input. Every other function is a **kernel**: private where nothing outside its crate uses it; where another crate does,
+A **public call** is a function that document 01 or 02 names, or that stands beside those (`root_near`, `partials_along`, `second_partials_along`, the
+lengths): it has no `requires` and answers every input. Every other function is a **kernel**: private where nothing outside its crate uses it; where another crate does,
 it is public to the language, and what it requires is proved at each of its calls. This page is what `compare/believed.py` prints: it follows names
 through the texts of promises and definitions, and the prover has no part in it.
 

@@ -23,6 +23,8 @@ ROWS = [
     ("basin_average N = 2700", "basin_average, N = 2700", "ratio", 1.0),
     ("partials N = 96", "partials N = 96", "ratio", 2.5),
     ("partials_along N = 96, a point", "partials_along N = 96, a point", "ratio", 0.4),
+    ("second_partials N = 96", "second_partials N = 96", "ratio", 1.4),
+    ("second_partials_along N = 96, a point", "second_partials_along N = 96, a point", "ratio", 0.3),
     ("analysis N = 96", "analysis N = 96", "ratio", 0.7),
     ("gauss_legendre n = 181", "gauss_legendre, n = 181", "ratio", 1.0),
     ("symmetric_eigen n = 32", "symmetric_eigen n = 32", "ratio", 0.9),

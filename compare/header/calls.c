@@ -194,6 +194,48 @@ static void points(void)
     free(c), free(s), free(trig), free(work), free(out);
 }
 
+/* The same point mass, and a field with c(2, 1) = 3 and s(2, 1) = 4 beside what partials says of it. */
+static void second_derivatives(void)
+{
+    size_t lengths[LISTS];
+    const double radii[2] = {2, 4}, latitudes[4] = {0, 1, 0.6, 0.8};
+    double first[4];
+    CHECK(geopotential_second_partials_along_lengths(2, 2, lengths, LISTS) == GEOPOTENTIAL_DONE && lengths[5] == 30 && lengths[6] == 20);
+    double *c = list(lengths[0]), *s = list(lengths[1]), *trig = list(lengths[4]), *work = list(lengths[5]), *out = list(lengths[6]);
+    CHECK(geopotential_zeros(8, 1, 2, c, lengths[0], s, lengths[1]) == GEOPOTENTIAL_DONE);
+    c[0] = 1;
+    fill_trig(0.5, 2, trig), fill_trig(1.5, 2, trig + 6);
+    CHECK(geopotential_second_partials_along(8, 1, 2, c, lengths[0], s, lengths[1], 2, radii, lengths[2], latitudes, lengths[3], trig,
+                                             lengths[4], work, lengths[5], out, lengths[6]) == GEOPOTENTIAL_DONE);
+    CHECK(out[0] == 4 && out[1] == -2 && out[4] == 2 && out[10] == 2 && out[11] == -0.5 && out[14] == 0.25 && out[20] == 7);
+    CHECK(work[lengths[5]] == 7);
+    CHECK(geopotential_second_partials_along_lengths(2, 65536, lengths, LISTS) == GEOPOTENTIAL_SIZE && lengths[6] == 20);
+    CHECK(geopotential_second_partials_lengths(2, lengths, LISTS) == GEOPOTENTIAL_DONE && lengths[3] == 30 && lengths[4] == 10);
+    c[4] = 3, s[4] = 4;
+    CHECK(geopotential_partials(8, 1, 2, c, lengths[0], s, lengths[1], 2, 0.6, 0.8, trig, lengths[2], work, lengths[3], first, 4) ==
+          GEOPOTENTIAL_DONE);
+    CHECK(geopotential_second_partials(8, 1, 2, c, lengths[0], s, lengths[1], 2, 0.6, 0.8, trig, lengths[2], work, lengths[3], out,
+                                       lengths[4]) == GEOPOTENTIAL_DONE);
+    CHECK(out[0] == first[0] && fabs(out[1] - first[1]) < 1e-14 && out[2] == first[2] && fabs(out[3] - first[3]) < 1e-14);
+    CHECK(geopotential_second_partials(8, 1, 2, c, lengths[0], s, lengths[1], 2, 0.6, 0.8, trig, lengths[2], work, lengths[3], out, 9) ==
+          GEOPOTENTIAL_SPACE);
+    free(c), free(s), free(trig), free(work), free(out);
+}
+
+/* The tensor of ten numbers where the latitude's tangent is 2 and its secant 4, then at a pole, where both are infinite. */
+static void tensor(void)
+{
+    size_t lengths[LISTS];
+    const double due[9] = {2, 17, 2, 17, 16, 10, 2, 10, 3};
+    double nine[9];
+    CHECK(geopotential_tensor_neu_lengths(lengths, 1) == GEOPOTENTIAL_DONE && lengths[0] == 9);
+    CHECK(geopotential_tensor_neu(4, -2, 6, 8, 3, 12, 5, 7, 9, 1, 2, 0.5, 0.25, nine, 9) == GEOPOTENTIAL_DONE);
+    for (size_t i = 0; i < 9; i++) CHECK(nine[i] == due[i]);
+    CHECK(geopotential_tensor_neu(4, -2, 6, 8, 3, 12, 5, 7, 9, 1, 2, 1, 0, nine, 8) == GEOPOTENTIAL_SPACE && nine[1] == 17);
+    CHECK(geopotential_tensor_neu(4, -2, 6, 8, 3, 12, 5, 7, 9, 1, 2, 1, 0, nine, 9) == GEOPOTENTIAL_DONE);
+    CHECK(nine[0] == 2 && nine[2] == 2 && nine[6] == 2 && nine[8] == 3 && isnan(nine[4]) && isinf(nine[1]) && nine[1] == nine[3]);
+}
+
 /* A constant on the grid of degree 0, one Gauss row of two longitudes, is the field's first coefficient. */
 static void analysis(void)
 {
@@ -255,6 +297,8 @@ int main(void)
     tables();
     grid();
     points();
+    second_derivatives();
+    tensor();
     analysis();
     eigenvalues();
     caps();

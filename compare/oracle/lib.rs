@@ -1,4 +1,4 @@
-//! The published crate `geopotential` (FusionVault/physica, commit 52f1dbc835, MIT) with document 01's stand-ins, as
+//! The published crate `geopotential` (FusionVault/physica, commit 52f1dbc835, MIT) with the stand-ins of documents 01 and 02, as
 //! `edits.txt` lists them. Without normal.rs, which leans on the crate `metrology`, and field.rs, which leans on normal.rs.
 
 /// Spherical harmonic coefficients of a field.

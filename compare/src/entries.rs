@@ -31,5 +31,6 @@ unsafe extern "C" {
     pub fn geopotential_legendre_entry_lengths(nmax: usize, lengths: *mut usize, lengths_len: usize) -> u32;
     pub fn geopotential_acceleration_neu_lengths(lengths: *mut usize, lengths_len: usize) -> u32;
     pub fn geopotential_gravity_neu_lengths(lengths: *mut usize, lengths_len: usize) -> u32;
+    pub fn geopotential_tensor_neu_lengths(lengths: *mut usize, lengths_len: usize) -> u32;
     pub fn geopotential_basin_average_lengths(nmax: usize, kmax: usize, lengths: *mut usize, lengths_len: usize) -> u32;
 }

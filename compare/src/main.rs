@@ -16,8 +16,10 @@ mod model_file;
 mod number;
 mod oracle_check;
 mod partials;
+mod points;
 mod refusal;
 mod refusals;
+mod second_partials;
 mod sizes;
 mod slepian;
 mod synthesis;
@@ -36,8 +38,8 @@ usage: compare [--seed NUMBER] [--quick] [SUBJECT...]   same bits as the oracle,
        compare bench [SUBJECT...]                       ours, the Rust's, their ratio
        compare replay SUBJECT FILE                      write the oracle's answers as Rattle constants
        compare margins FILE [COUNT [SEED]]              write values and their sums' numbers, for margins.py
-subjects: number, functional, coefficients, model_file, legendre, synthesis, partials, analysis, linalg, slepian, lengths; for replay also refusals,
-          refusals_files, refusals_fields, refusals_c, values_c";
+subjects: number, functional, coefficients, model_file, legendre, synthesis, partials, second_partials, analysis, linalg, slepian, lengths;
+          for replay also refusals, refusals_files, refusals_fields, refusals_points, refusals_c, values_c";
 
 /// One crate of the library: what can be done with it here.
 struct Subject {
@@ -75,6 +77,12 @@ const SUBJECTS: &[Subject] = &[
         replay: Some(synthesis::replay::replay),
     },
     Subject { name: "partials", compare: partials::compare, bench: Some(partials::bench::bench), replay: Some(partials::replay::replay) },
+    Subject {
+        name: "second_partials",
+        compare: second_partials::compare,
+        bench: Some(second_partials::bench::bench),
+        replay: Some(second_partials::replay::replay),
+    },
     Subject { name: "analysis", compare: analysis::compare, bench: Some(analysis::bench::bench), replay: Some(analysis::replay::replay) },
     Subject { name: "linalg", compare: linalg::compare, bench: Some(linalg::bench::bench), replay: Some(linalg::replay::replay) },
     Subject { name: "slepian", compare: slepian::compare, bench: Some(slepian::bench::bench), replay: Some(slepian::replay::replay) },
@@ -82,6 +90,7 @@ const SUBJECTS: &[Subject] = &[
     Subject { name: "refusals", compare: |_| (), bench: None, replay: Some(refusals::models::replay) },
     Subject { name: "refusals_files", compare: |_| (), bench: None, replay: Some(refusals::files::replay) },
     Subject { name: "refusals_fields", compare: |_| (), bench: None, replay: Some(refusals::fields::replay) },
+    Subject { name: "refusals_points", compare: |_| (), bench: None, replay: Some(refusals::points::replay) },
     Subject { name: "refusals_c", compare: |_| (), bench: None, replay: Some(refusals::entries::replay) },
     Subject { name: "values_c", compare: |_| (), bench: None, replay: Some(refusals::values::replay) },
 ];

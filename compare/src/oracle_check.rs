@@ -7,6 +7,7 @@ use oracle::{Coefficients, Functional, Legendre, gauss_grid, gauss_legendre, leg
 
 use crate::cases::{Cases, strange};
 use crate::lent::{analysis_orders, cap_pairs, orders, pair};
+use crate::second_partials::trace_share;
 use crate::tally::{Report, Tally, pattern};
 
 /// Equal to within 1e-12 of the larger size.
@@ -107,6 +108,7 @@ fn fields(tally: &mut Tally, cases: &mut Cases) {
     tally.holds(close(-point.dr, disturbance[0]), "partials and grid agree on the radial derivative");
     let second = field.second_partials(r, pairs[row], lent[column]);
     tally.holds(close(second.first.v, point.v) && close(second.first.dlat, point.dlat), "second_partials has the first ones");
+    tally.holds(trace_share(second.tensor_neu(r, pairs[row]).as_flattened()) < 1e-12, "the tensor has no trace");
     let (acceleration, gravity) = (point.acceleration_neu(r, pairs[row]), point.gravity_neu(r, pairs[row], 7.292115e-5));
     tally.holds(acceleration[2] == point.dr && gravity[1] == acceleration[1] && gravity[2] > acceleration[2], "acceleration and gravity");
 

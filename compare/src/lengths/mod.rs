@@ -57,9 +57,16 @@ fn grid(sizes: &[usize]) -> Vec<u128> {
     vec![t, t, orders, 2 * lines, 2 * longitudes * orders, 3 * t + 3 * orders, lines * longitudes]
 }
 
-fn along(sizes: &[usize]) -> Vec<u128> {
+/// One point: so many tables of working numbers, so many numbers that are answered.
+fn point<const TABLES: u128, const NUMBERS: u128>(sizes: &[usize]) -> Vec<u128> {
+    let (t, orders) = (pairs(sizes[0]), rows(sizes[0]));
+    vec![t, t, 2 * orders, TABLES * t, NUMBERS]
+}
+
+/// Many points, so many numbers for each.
+fn along<const TABLES: u128, const NUMBERS: u128>(sizes: &[usize]) -> Vec<u128> {
     let (t, orders, points) = (pairs(sizes[0]), rows(sizes[0]), sizes[1] as u128);
-    vec![t, t, points, 2 * points, 2 * points * orders, 4 * t, 4 * points]
+    vec![t, t, points, 2 * points, 2 * points * orders, TABLES * t, NUMBERS * points]
 }
 
 fn analysis(sizes: &[usize]) -> Vec<u128> {
@@ -124,15 +131,18 @@ const TOLD: &[Told] = &[
         due: |s| vec![(s[0] as u128).div_ceil(2), s[0] as u128, s[0] as u128],
     },
     Told { name: "grid", entry: Three(geopotential_grid_lengths), limits: &[MAX_DEGREE, MAX_LINES, MAX_LINES], due: grid },
-    Told {
-        name: "partials",
-        entry: One(geopotential_partials_lengths),
-        limits: DEGREE,
-        due: |s| [tables::<2>(s), vec![2 * rows(s[0]), 4 * pairs(s[0]), 4]].concat(),
-    },
-    Told { name: "partials_along", entry: Two(geopotential_partials_along_lengths), limits: &[MAX_DEGREE, MAX_LINES], due: along },
+    Told { name: "partials", entry: One(geopotential_partials_lengths), limits: DEGREE, due: point::<4, 4> },
+    Told { name: "partials_along", entry: Two(geopotential_partials_along_lengths), limits: &[MAX_DEGREE, MAX_LINES], due: along::<4, 4> },
     Told { name: "acceleration_neu", entry: None(geopotential_acceleration_neu_lengths), limits: &[], due: |_| vec![3] },
     Told { name: "gravity_neu", entry: None(geopotential_gravity_neu_lengths), limits: &[], due: |_| vec![3] },
+    Told { name: "second_partials", entry: One(geopotential_second_partials_lengths), limits: DEGREE, due: point::<5, 10> },
+    Told {
+        name: "second_partials_along",
+        entry: Two(geopotential_second_partials_along_lengths),
+        limits: &[MAX_DEGREE, MAX_LINES],
+        due: along::<5, 10>,
+    },
+    Told { name: "tensor_neu", entry: None(geopotential_tensor_neu_lengths), limits: &[], due: |_| vec![9] },
     Told { name: "analysis", entry: One(geopotential_analysis_lengths), limits: DEGREE, due: analysis },
     Told { name: "symmetric_eigen", entry: One(geopotential_symmetric_eigen_lengths), limits: &[512], due: matrix },
     Told { name: "householder_ql", entry: One(geopotential_householder_ql_lengths), limits: &[512], due: matrix },

@@ -3,7 +3,8 @@
 
 use super::fields::{ANALYSIS, GRID};
 use super::files::{DATE, WRITE, WRITE_DATED, model};
-use super::{Call, Input, Love, Output, Value, Work, constants, distinct, front, title};
+use super::points::{self, SECOND_PARTIALS_ALONG, point_to_list};
+use super::{Call, Input, Love, Output, Value, constants, distinct, front, title};
 use crate::constants::bytes;
 use crate::model_file::format::{HEAD_WORDS, Model, file, read};
 use crate::refusal::{SPACE, TIDE, pairs};
@@ -34,17 +35,10 @@ const BASIN_AVERAGE: Call = Call {
     },
 };
 
-/// One point, whose four numbers go to a list.
-const PARTIALS: Call = Call {
-    name: "partials",
-    limits: &[2700],
-    small: &[&[0], &[1]],
-    functionals: &[],
-    lists: |n| {
-        let size = pairs(n[0]);
-        vec![(Input, size), (Input, size), (Input, 2 * (n[0] as u128 + 1)), (Work, 4 * size.min(1 << 100)), (Output, 4)]
-    },
-};
+/// One point, whose numbers go to a list.
+const PARTIALS: Call = Call { lists: |n| point_to_list(4, 4, n[0]), ..points::PARTIALS };
+
+const SECOND_PARTIALS: Call = Call { lists: |n| point_to_list(5, 10, n[0]), ..points::SECOND_PARTIALS };
 
 /// N, the tide, the lengths of c, s and of the bytes, and `dated`. A tide above 3 comes before every check.
 fn model_write() -> String {
@@ -114,10 +108,11 @@ fn reads(length: usize) -> Vec<[usize; 5]> {
     distinct(cases)
 }
 
-/// Three numbers to a list, whose length is the only column.
-fn three() -> String {
-    let rows = [0, 2, 3, 4].map(|length| vec![length]);
-    constants("three", WIDTH, &rows, &rows.clone().map(|row| if row[0] < 3 { [SPACE as u64, 0] } else { [0, front(0, 3)] }))
+/// So many numbers to a list, whose length is the only column.
+fn fixed(name: &str, numbers: u64) -> String {
+    let rows = [0, numbers - 1, numbers, numbers + 1].map(|length| vec![length]);
+    let due = |row: Vec<u64>| if row[0] < numbers { [SPACE as u64, 0] } else { [0, front(0, numbers)] };
+    constants(name, WIDTH, &rows, &rows.clone().map(due))
 }
 
 pub fn replay() -> String {
@@ -125,5 +120,8 @@ pub fn replay() -> String {
     for call in [FACTOR, DEGREE_AMPLITUDES, GRID, BASIN_AVERAGE, ANALYSIS] {
         text += &call.constants_of(&distinct([call.functionals(), call.two_lists()].concat()), WIDTH);
     }
-    text + &PARTIALS.constants(WIDTH) + &model_write() + &model_read() + &three()
+    for call in [PARTIALS, SECOND_PARTIALS, SECOND_PARTIALS_ALONG] {
+        text += &call.constants(WIDTH);
+    }
+    text + &model_write() + &model_read() + &fixed("three", 3) + &fixed("nine", 9)
 }

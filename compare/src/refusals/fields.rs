@@ -1,4 +1,4 @@
-//! The calls on grids, basins, points, analyses, matrices and caps.
+//! The calls on grids, basins, analyses, matrices and caps.
 
 use super::{Call, Input, Love, Output, Work, heads, title};
 use crate::refusal::pairs;
@@ -35,30 +35,6 @@ const BASIN_AVERAGE: Call = Call {
     lists: |n| {
         let (field, kernel) = (pairs(n[0]), pairs(n[1]));
         vec![(Input, field), (Input, field), (Input, kernel), (Input, kernel), (Love, n[0].min(n[1]) as u128 + 1)]
-    },
-};
-
-const PARTIALS: Call = Call {
-    name: "partials",
-    limits: &[2700],
-    small: &[&[0], &[1]],
-    functionals: &[],
-    lists: |n| {
-        let size = pairs(n[0]);
-        vec![(Input, size), (Input, size), (Input, 2 * (n[0] as u128 + 1)), (Work, 4 * size.min(1 << 100))]
-    },
-};
-
-const PARTIALS_ALONG: Call = Call {
-    name: "partials_along",
-    limits: &[2700, 65_535],
-    small: &[&[0, 0], &[0, 1], &[1, 2]],
-    functionals: &[],
-    lists: |n| {
-        let (size, points) = (pairs(n[0]), n[1] as u128);
-        let trig = (2 * (n[0] as u128 + 1)).min(1 << 60) * points;
-        let room = 4 * size.min(1 << 100);
-        vec![(Input, size), (Input, size), (Input, points), (Input, 2 * points), (Input, trig), (Work, room), (Output, 4 * points)]
     },
 };
 
@@ -113,7 +89,7 @@ const POLAR_CAP: Call = Call {
 
 pub fn replay() -> String {
     let mut text = title("Calls on fields, matrices and caps", "refusals_fields");
-    let calls = [GRID, BASIN_AVERAGE, PARTIALS, PARTIALS_ALONG, ANALYSIS, eigen("symmetric_eigen"), eigen("householder_ql"), POLAR_CAP];
+    let calls = [GRID, BASIN_AVERAGE, ANALYSIS, eigen("symmetric_eigen"), eigen("householder_ql"), POLAR_CAP];
     calls.iter().for_each(|call| text += &call.constants(WIDTH));
     let (gm, radius) = (3.5f64.to_bits(), 7.25f64.to_bits());
     text + &heads("heads of analysed models: gm, radius, tide, N and date", &[[gm, radius, 3, 0, 0], [gm, radius, 3, 1, 0]])

@@ -1,7 +1,7 @@
 //! The calls on model files: damaged copies of two files for the reader, without a date and with one; lengths about the stated ones for the writer.
 
 use super::{Call, Input, Output, constants, distinct, front, title};
-use crate::constants::bytes;
+use crate::constants::{array, bytes};
 use crate::model_file::format::{DATED_HEAD, Model, file, file_length, head_length, read};
 use crate::refusal::{SHORT, SPACE, pairs};
 
@@ -37,37 +37,66 @@ fn copies(date: Option<i32>) -> Vec<[usize; 5]> {
     list
 }
 
-/// A case of the reader: a copy, and the lengths of c and s. Due are the refusals of the whole call and what it writes, then those of the call that looks
-/// at the head alone.
-fn reader(name: &str, date: Option<i32>) -> String {
-    let mut whole = [&file(&model(date))[..], &[3]].concat();
-    let mut cases: Vec<([usize; 5], [usize; 2])> = copies(date).into_iter().map(|copy| (copy, [4, 4])).collect();
-    let kept = copies(date)[0];
-    cases.extend([[3, 3], [2, 3], [3, 2], [2, 2], [4, 3], [0, 0]].map(|lengths| (kept, lengths)));
-    // SPACE comes last, behind every mistake of the file.
-    cases.extend(copies(date).into_iter().skip(1).step_by(4).map(|copy| (copy, [2, 0])));
+/// A case of the reader: a copy, and the lengths of c and s.
+type Reading = ([usize; 5], [usize; 2]);
+
+/// Lists that are too short for every model of these files: SPACE comes last, behind every mistake of the file.
+const TOO_SHORT: [usize; 2] = [2, 0];
+
+/// Every copy with lists that are long enough, the whole file with lists about the stated ones, and every fourth copy with lists that are too short.
+fn readings(date: Option<i32>) -> Vec<Reading> {
+    let copies = copies(date);
+    let mut cases: Vec<Reading> = copies.iter().map(|&copy| (copy, [4, 4])).collect();
+    cases.extend([[3, 3], [2, 3], [3, 2], [2, 2], [4, 3], [0, 0]].map(|lengths| (copies[0], lengths)));
+    cases.extend(copies.iter().skip(1).step_by(4).map(|&copy| (copy, TOO_SHORT)));
+    distinct(cases)
+}
+
+/// The copies between those with lists that are too short, so that no copy is left out, however the list of copies grows.
+fn other_readings(date: Option<i32>) -> Vec<Reading> {
+    let (had, all) = (readings(date), copies(date).into_iter().map(|copy| (copy, TOO_SHORT)));
+    distinct(all.filter(|case| !had.contains(case)).collect())
+}
+
+/// A damaged copy, as long as it is kept.
+fn damaged(whole: &[u8], copy: [usize; 5]) -> Vec<u8> {
+    let mut bytes = whole.to_vec();
+    (bytes[copy[1]], bytes[copy[3]]) = (copy[2] as u8, copy[4] as u8);
+    bytes.truncate(copy[0]);
+    bytes
+}
+
+/// Cases of the reader, and of each the refusal of the call and what it writes.
+fn reading_constants(name: &str, whole: &[u8], cases: &[Reading]) -> String {
     let (mut rows, mut dues) = (Vec::new(), Vec::new());
-    let mut heads = Vec::new();
-    for (copy, lengths) in distinct(cases) {
-        let mut bytes = whole.clone();
-        (bytes[copy[1]], bytes[copy[3]]) = (copy[2] as u8, copy[4] as u8);
+    for &(copy, lengths) in cases {
         let mut model = Model::default();
-        let file = read(&bytes[..copy[0]], &mut model);
-        let due = match file {
+        let due = match read(&damaged(whole, copy), &mut model) {
             Ok(()) if lengths.iter().any(|&length| length < model.c.len()) => SPACE,
             other => other.err().unwrap_or(0),
         };
         let written = if due == 0 { (0..2).map(|place| front(place, model.c.len() as u64)).sum() } else { 0 };
         rows.push(copy.into_iter().chain(lengths).map(|x| x as u64).collect::<Vec<u64>>());
         dues.push([due as u64, written]);
-        heads.push([head_due(&bytes[..copy[0]]) as u64, file.err().unwrap_or(0) as u64]);
     }
-    let flat: Vec<String> = heads.iter().flatten().map(u64::to_string).collect();
+    constants(name, WIDTH, &rows, &dues)
+}
+
+/// Due of each copy are also the refusals of the calls that look at the head alone, and at the whole file without lists.
+fn reader(name: &str, date: Option<i32>) -> String {
+    let mut whole = [&file(&model(date))[..], &[3]].concat();
+    let cases = readings(date);
+    let verdicts = cases.iter().flat_map(|&(copy, _)| {
+        let bytes = damaged(&whole, copy);
+        [head_due(&bytes), read(&bytes, &mut Model::default()).err().unwrap_or(0)]
+    });
+    let verdicts: Vec<String> = verdicts.map(|due| due.to_string()).collect();
     let title = name.to_uppercase();
+    let text = reading_constants(name, &whole, &cases)
+        + &array("due of the head alone, and of the whole file without lists", &format!("{title}_VERDICT_DUE"), &verdicts)
+        + &reading_constants(&format!("{name}_too_short"), &whole, &other_readings(date));
     whole.resize(77, 0);
-    bytes("the file that is damaged, a byte behind it, and zeros up to the length of the longest", &format!("{title}_FILE"), &whole)
-        + &constants(name, WIDTH, &rows, &dues)
-        + &crate::constants::array("due of the head alone, and of the whole file without lists", &format!("{title}_VERDICT_DUE"), &flat)
+    bytes("the file that is damaged, a byte behind it, and zeros up to the length of the longest", &format!("{title}_FILE"), &whole) + &text
 }
 
 /// What is due of the head alone, whatever stands behind it: a copy that is cut behind its head is short there, and no other mistake is left.

@@ -5,6 +5,8 @@ pub mod entries;
 pub mod fields;
 pub mod files;
 pub mod models;
+pub mod points;
+mod tensors;
 pub mod values;
 
 use crate::constants::{array, hexadecimal};

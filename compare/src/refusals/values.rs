@@ -10,7 +10,7 @@ use crate::model_file::format::{END, HEAD_WORDS, Model, file, file_length, read}
 use crate::refusal::{LOVE, MAX_DEGREE, PLACE, SIZE, pairs};
 
 /// What stands in lists and in the number before a call.
-const MARK: f64 = 1234.5;
+pub(super) const MARK: f64 = 1234.5;
 const MARK_WORD: u64 = 0x5a5a_1234_5a5a_9876;
 const MARK_LENGTH: usize = 1234;
 
@@ -26,7 +26,7 @@ fn refused(refusal: u32) -> String {
     refusal.to_string()
 }
 
-fn numbers(list: &[f64]) -> Vec<String> {
+pub(super) fn numbers(list: &[f64]) -> Vec<String> {
     list.iter().map(|&x| number(x)).collect()
 }
 
@@ -37,7 +37,7 @@ fn factors() -> Vec<String> {
     all.chain(of(WATER_HEIGHT - 1)).chain([refused(LOVE), number(MARK)]).collect()
 }
 
-fn field() -> Coefficients {
+pub(super) fn field() -> Coefficients {
     let mut field = Coefficients::zeros(3.5, 7.25, 1);
     (field.c, field.s) = (C.to_vec(), S.to_vec());
     field
@@ -91,7 +91,7 @@ fn reading(bytes: &[u8]) -> Vec<String> {
 }
 
 /// What is told of lists: the refusal or 0, then their lengths, and the mark in every place behind them, so many in all.
-fn told(refusal: u32, lengths: &[usize], places: usize) -> Vec<String> {
+pub(super) fn told(refusal: u32, lengths: &[usize], places: usize) -> Vec<String> {
     let lengths = lengths.iter().filter(|_| refusal == 0).chain(std::iter::repeat(&MARK_LENGTH)).take(places);
     std::iter::once(refusal as usize).chain(lengths.copied()).map(|x| x.to_string()).collect()
 }
@@ -138,5 +138,5 @@ pub fn replay() -> String {
     text += &array("with a record of another kind at byte 20", "READ_KIND", &reading(&kind));
     text += &bytes("with a byte too many", "LONG", &long);
     text += &array("what is read of that", "READ_LONG", &reading(&long));
-    text + &lengths(&whole, &dated)
+    text + &lengths(&whole, &dated) + &super::tensors::text()
 }
