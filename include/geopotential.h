@@ -166,6 +166,23 @@ uint32_t geopotential_acceleration_neu(double v, double dr, double dlat, double 
 /* Gravity: the same with the centrifugal term of a rotation omega. Refused by 3. */
 uint32_t geopotential_gravity_neu(double v, double dr, double dlat, double dlon, double r, double t, double u, double omega, double *out,
                                   size_t out_len);
+/* V with its first and second derivatives by r, latitude and longitude at one point, ten numbers in this order: v, dr, dlat, dlon, drr, dlatlat,
+ * dlonlon, drlat, drlon, dlatlon. v and dlat are those of partials, bit for bit; dr and dlon follow another order of operations and may differ from
+ * those of partials by rounding. trig: 2N+2, as for partials; work: 5T; out: 10. Refused by 1, 2, 3. */
+uint32_t geopotential_second_partials(double gm, double radius, size_t nmax, const double *c, size_t c_len, const double *s, size_t s_len,
+                                      double r, double t, double u, const double *trig, size_t trig_len, double *work, size_t work_len,
+                                      double *out, size_t out_len);
+/* The same at many points, ten numbers for each; the tables are worked out once. radii: points; latitudes: 2 points; trig: points (2N+2); work:
+ * 5T; out: 10 points. Refused by 1, 2, 3. */
+uint32_t geopotential_second_partials_along(double gm, double radius, size_t nmax, const double *c, size_t c_len, const double *s,
+                                            size_t s_len, size_t points, const double *radii, size_t radii_len, const double *latitudes,
+                                            size_t latitudes_len, const double *trig, size_t trig_len, double *work, size_t work_len,
+                                            double *out, size_t out_len);
+/* The tensor of gravity gradients from the ten numbers of a point, 1/s^2 (1e9 times that in Eotvos): the second derivatives of V along north,
+ * east and up, row by row: nn, ne, nu, en, ee, eu, un, ue, uu. The latitude's tangent is t/u and its secant 1/u; at a pole u is 0, and so is a
+ * divisor. The tensor is symmetric bit for bit, but that the bits of an entry that is NaN are free. out: 9. Refused by 3. */
+uint32_t geopotential_tensor_neu(double v, double dr, double dlat, double dlon, double drr, double dlatlat, double dlonlon, double drlat,
+                                 double drlon, double dlatlon, double r, double t, double u, double *out, size_t out_len);
 /* The coefficients of a functional's values on N+1 Gauss rows of 2N+2 longitudes, by quadrature. love: N+1 or more for water heights;
  * values: (N+1)(2N+2), row after row; weights: N+1; latitudes: 2(N+1); trig: 2(N+1)(2N+2), order after order, for each longitude the cosine and
  * the sine of m times it; work: 3T; c, s: T. Refused by 255, 1, 2, 5, 3. */
@@ -227,8 +244,12 @@ uint32_t geopotential_grid_lengths(size_t nmax, size_t rows, size_t longitudes, 
 uint32_t geopotential_partials_lengths(size_t nmax, size_t *lengths, size_t lengths_len); /* c, s, trig, work, out */
 /* c, s, radii, latitudes, trig, work, out */
 uint32_t geopotential_partials_along_lengths(size_t nmax, size_t points, size_t *lengths, size_t lengths_len);
-uint32_t geopotential_acceleration_neu_lengths(size_t *lengths, size_t lengths_len);      /* out */
-uint32_t geopotential_gravity_neu_lengths(size_t *lengths, size_t lengths_len);           /* out */
+uint32_t geopotential_acceleration_neu_lengths(size_t *lengths, size_t lengths_len);             /* out */
+uint32_t geopotential_gravity_neu_lengths(size_t *lengths, size_t lengths_len);                  /* out */
+uint32_t geopotential_second_partials_lengths(size_t nmax, size_t *lengths, size_t lengths_len); /* c, s, trig, work, out */
+/* c, s, radii, latitudes, trig, work, out */
+uint32_t geopotential_second_partials_along_lengths(size_t nmax, size_t points, size_t *lengths, size_t lengths_len);
+uint32_t geopotential_tensor_neu_lengths(size_t *lengths, size_t lengths_len);                   /* out */
 uint32_t geopotential_analysis_lengths(size_t nmax, size_t *lengths, size_t lengths_len); /* love, values, weights, latitudes, trig, work, c, s */
 uint32_t geopotential_symmetric_eigen_lengths(size_t n, size_t *lengths, size_t lengths_len); /* a, work, values, vectors */
 uint32_t geopotential_householder_ql_lengths(size_t n, size_t *lengths, size_t lengths_len);  /* a, work, values, vectors */

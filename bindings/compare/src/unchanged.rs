@@ -1,7 +1,7 @@
 //! The same program, compiled against the bindings and against the published crate with its files unchanged. It names no date, which
-//! the published type has not: its fields have none, and `==` answers as published. Of these calls document 01's stand-ins touch one
-//! bit: a sum of a grid starts at +0.0, so a zero may have another sign. Solver and caps have another `hypot` and are left to the
-//! oracle.
+//! the published type has not: its fields have none, and `==` answers as published. Of these calls the stand-ins touch two things: a
+//! sum of a grid starts at +0.0, so a zero may have another sign, and a tensor's tan is t/u, which has a part in its entries ee and
+//! ne. Solver and caps have another `hypot` and are left to the oracle.
 
 use crate::cases::Cases;
 use crate::inputs::{angles, fault};
@@ -40,7 +40,7 @@ macro_rules! program {
     ($name:ident, $library:ident) => {
         mod $name {
             use $library::slepian::basin_average;
-            use $library::{Coefficients, Functional, Legendre, Partials, gauss_grid, gauss_legendre};
+            use $library::{Coefficients, Functional, Legendre, Partials, SecondPartials, gauss_grid, gauss_legendre};
 
             use super::Input;
 
@@ -114,6 +114,23 @@ macro_rules! program {
                 input.lats.iter().zip(&input.lons).flat_map(at).collect()
             }
 
+            fn second(input: &Input) -> impl Iterator<Item = (f64, SecondPartials)> {
+                let field = field(input);
+                input.lats.iter().zip(&input.lons).map(move |(&lat, &lon)| (lat, field.second_partials(input.r, lat, lon)))
+            }
+
+            pub fn second_partials(input: &Input) -> Vec<f64> {
+                let numbers = |(_, at): (f64, SecondPartials)| {
+                    let SecondPartials { first: Partials { v, dr, dlat, dlon }, drr, dlatlat, dlonlon, drlat, drlon, dlatlon } = at;
+                    [v, dr, dlat, dlon, drr, dlatlat, dlonlon, drlat, drlon, dlatlon]
+                };
+                second(input).flat_map(numbers).collect()
+            }
+
+            pub fn tensor(input: &Input) -> Vec<f64> {
+                second(input).flat_map(|(lat, at)| at.tensor_neu(input.r, lat).concat()).collect()
+            }
+
             pub fn analysis(input: &Input) -> Vec<f64> {
                 let analysis = |f| Coefficients::analysis(&f, input.r, &input.values, input.nmax, input.gm, input.radius);
                 functionals(input).into_iter().flat_map(|f| numbers(&analysis(f))).collect()
@@ -142,6 +159,8 @@ const PARTS: &[(&str, Program, Program)] = &[
     ("grid", ours::grid, theirs::grid),
     ("grid, zeros unsigned", |input| unsigned(ours::grid(input)), |input| unsigned(theirs::grid(input))),
     ("partials", ours::partials, theirs::partials),
+    ("second_partials", ours::second_partials, theirs::second_partials),
+    ("tensor, without tan", |input| without_tan(ours::tensor(input)), |input| without_tan(theirs::tensor(input))),
     ("analysis", ours::analysis, theirs::analysis),
     ("basin_average", ours::average, theirs::average),
 ];
@@ -149,6 +168,11 @@ const PARTS: &[(&str, Program, Program)] = &[
 /// Every zero as +0.
 fn unsigned(numbers: Vec<f64>) -> Vec<f64> {
     numbers.into_iter().map(|x| if x == 0.0 { 0.0 } else { x }).collect()
+}
+
+/// Of each tensor's nine entries those that no tangent has a part in: nn, nu, eu, un, ue, uu.
+fn without_tan(numbers: Vec<f64>) -> Vec<f64> {
+    numbers.as_chunks::<9>().0.iter().flat_map(|tensor| [0, 2, 5, 6, 7, 8].map(|place| tensor[place])).collect()
 }
 
 pub fn compare(report: &mut Report) {

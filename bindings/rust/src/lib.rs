@@ -26,19 +26,21 @@
 //!
 //! # Added
 //!
-//! [`Coefficients::partials_along`] takes many points at once, [`model_file`] keeps a field in a file with every bit of it,
-//! [`Coefficients::date`] is the day that a field is of, and [`Refusal`] says why a call was refused.
+//! [`Coefficients::partials_along`] and [`Coefficients::second_partials_along`] take many points at once, [`model_file`] keeps a
+//! field in a file with every bit of it, [`Coefficients::date`] is the day that a field is of, and [`Refusal`] says why a call was
+//! refused.
 //!
 //! # Not ported
 //!
-//! Of the published crate: `second_partials` and `SecondPartials` with `tensor_neu`, `compute_with_second_derivative`, `ddp`;
-//! `geopotential` and `deflections` of [`Partials`]; `to_tide_system` and `TimeVariable`; `gauss` and `cholesky*` of [`linalg`];
-//! regions, polygons and `basin_kernel` of [`slepian`]; the modules `normal` and `field`; the feature `serde`.
+//! Of the published crate: `compute_with_second_derivative` and `ddp` of [`Legendre`]; `geopotential` and `deflections` of
+//! [`Partials`]; `to_tide_system` and `TimeVariable`; `gauss` and `cholesky*` of [`linalg`]; regions, polygons and `basin_kernel`
+//! of [`slepian`]; the modules `normal` and `field`; the feature `serde`.
 //!
 //! # Memory
 //!
 //! A call allocates its answer and nothing else: working lists belong to the thread, grow to what its largest call needs and are
-//! kept until it ends (4T numbers for partials, T = (N+1)(N+2)/2; a grid keeps 2N + 2 numbers for each longitude).
+//! kept until it ends (4T numbers for partials and 5T for second partials, T = (N+1)(N+2)/2; a grid keeps 2N + 2 numbers for each
+//! longitude).
 
 #![deny(unsafe_code)]
 
@@ -65,7 +67,7 @@ pub use coefficients::{Coefficients, TideSystem};
 pub use functional::{Functional, RHO_EARTH, RHO_WATER};
 pub use legendre::{Legendre, MAX_DEGREE, gauss_legendre, try_gauss_legendre};
 pub use refusal::Refusal;
-pub use synthesis::{Partials, gauss_grid, try_gauss_grid};
+pub use synthesis::{Partials, SecondPartials, gauss_grid, try_gauss_grid};
 
 /// The version of the entries of the library that is linked, raised wherever one of them changes its parameters or the meaning of its
 /// answer.

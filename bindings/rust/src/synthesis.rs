@@ -40,7 +40,141 @@ impl Partials {
     }
 }
 
+/// The potential with its first and second partial derivatives in `(r, φ, λ)` at one point: what
+/// a gravity-gradient tensor is built from.
+#[derive(Clone, Copy, Debug, PartialEq)]
+pub struct SecondPartials {
+    /// `V`, `∂V/∂r`, `∂V/∂φ`, `∂V/∂λ`.
+    pub first: Partials,
+    /// `∂²V/∂r²`.
+    pub drr: f64,
+    /// `∂²V/∂φ²`.
+    pub dlatlat: f64,
+    /// `∂²V/∂λ²`.
+    pub dlonlon: f64,
+    /// `∂²V/∂r∂φ`.
+    pub drlat: f64,
+    /// `∂²V/∂r∂λ`.
+    pub drlon: f64,
+    /// `∂²V/∂φ∂λ`.
+    pub dlatlon: f64,
+}
+
+impl SecondPartials {
+    /// The gravity-gradient (tidal) tensor `Γᵢⱼ = ∂²V/∂xᵢ∂xⱼ` in the local frame at geocentric
+    /// radius `r` (m) and latitude `lat` (radians), s⁻², as the symmetric matrix
+    /// `[[Γnn, Γne, Γnu], [Γne, Γee, Γeu], [Γnu, Γeu, Γuu]]` with x = north, y = east, z = up.
+    /// Multiply by 1e9 for Eötvös. Its trace is meant to vanish but for rounding, as it does in free
+    /// space (Laplace's equation). A gradiometer measures it directly: a rigid vehicle's own acceleration
+    /// is common to both proof masses and cancels, leaving only this.
+    ///
+    /// For a point mass it is `diag(−GM/r³, −GM/r³, +2GM/r³)`. Undefined exactly at a pole; next to
+    /// one `Γne` and `Γee` lose digits, since `cos φ` divides. `tan φ` is `sin φ/cos φ` here, where the
+    /// published crate calls `tan`.
+    ///
+    /// ```
+    /// let mut field = geopotential::Coefficients::zeros(8.0, 1.0, 0);
+    /// field.set(0, 0, 1.0, 0.0);
+    /// let tensor = field.second_partials(2.0, 0.3, 1.0).tensor_neu(2.0, 0.3);
+    /// assert_eq!(tensor, [[-1.0, 0.0, 0.0], [0.0, -1.0, 0.0], [0.0, 0.0, 2.0]]);
+    /// ```
+    pub fn tensor_neu(&self, r: f64, lat: f64) -> [[f64; 3]; 3] {
+        or_panic(points::tensor_neu(*self, r, lat.sin_cos()))
+    }
+
+    /// From the ten numbers of a point, as the library writes them.
+    pub(crate) fn of(&[v, dr, dlat, dlon, drr, dlatlat, dlonlon, drlat, drlon, dlatlon]: &[f64; 10]) -> Self {
+        let first = Partials { v, dr, dlat, dlon };
+        SecondPartials { first, drr, dlatlat, dlonlon, drlat, drlon, dlatlon }
+    }
+}
+
+/// A call of the library at one point: r, the sine and cosine of the latitude, trig, working numbers.
+type AtPoint<P> = fn(&Coefficients, f64, (f64, f64), &[f64], &mut [f64]) -> Result<P, Refusal>;
+
+/// A call of the library at many points: their lists, working numbers, the numbers of all points.
+type AlongPoints = fn(&Coefficients, Points, &mut [f64], &mut [f64]) -> Result<(), Refusal>;
+
 impl Coefficients {
+    /// One call at a point `(r, lat, lon)`, with lists of the lengths that its entry tells: c, s, trig, work, out.
+    fn at_point<P>(
+        &self,
+        lengths: fn(usize) -> Result<[usize; 5], Refusal>,
+        call: AtPoint<P>,
+        (r, lat, lon): (f64, f64, f64),
+    ) -> Result<P, Refusal> {
+        let [_, _, trig, work, _] = lengths(self.nmax)?;
+        workspace::lend(|lists| {
+            let (trig, work) = (lists.trig.front(trig), lists.work.front(work));
+            put_longitudes(trig, [lon].into_iter(), self.nmax);
+            call(self, r, lat.sin_cos(), trig, work)
+        })
+    }
+
+    /// One call at many points, with lists of the lengths that its entry tells: c, s, radii, latitudes, trig, work, out. Each
+    /// answer is made `of` the numbers of its point.
+    fn along_points<const NUMBERS: usize, P>(
+        &self,
+        lengths: fn(usize, usize) -> Result<[usize; 7], Refusal>,
+        call: AlongPoints,
+        of: fn(&[f64; NUMBERS]) -> P,
+        points: &[(f64, f64, f64)],
+    ) -> Result<Vec<P>, Refusal> {
+        let [_, _, radii, latitudes, trig, work, out] = lengths(self.nmax, points.len())?;
+        workspace::lend(|lists| {
+            let (radii, latitudes, trig) = (lists.radii.front(radii), lists.latitudes.front(latitudes), lists.trig.front(trig));
+            let (work, out) = (lists.work.front(work), lists.numbers.front(out));
+            radii.iter_mut().zip(points).for_each(|(radius, &(r, _, _))| *radius = r);
+            put_latitudes(latitudes, points.iter().map(|&(_, lat, _)| lat));
+            put_longitudes(trig, points.iter().map(|&(_, _, lon)| lon), self.nmax);
+            call(self, Points { count: points.len(), radii, latitudes, trig }, work, out)?;
+            Ok(out.as_chunks().0.iter().map(of).collect())
+        })
+    }
+
+    /// `V` with its first and second partial derivatives at geocentric radius `r` (m), latitude
+    /// `lat` and longitude `lon` (radians). No division by `cos φ`: at a pole the sums are what the
+    /// recursion gives there. `first.v` and `first.dlat` have the bits of [`partials`](Self::partials);
+    /// `first.dr` and `first.dlon` follow another order of operations and may differ by rounding.
+    ///
+    /// ```
+    /// let mut field = geopotential::Coefficients::zeros(8.0, 1.0, 0);
+    /// field.set(0, 0, 1.0, 0.0);
+    /// let at = field.second_partials(2.0, 0.3, 1.0);
+    /// assert_eq!((at.first.v, at.first.dr, at.drr), (4.0, -2.0, 2.0));
+    /// ```
+    pub fn second_partials(&self, r: f64, lat: f64, lon: f64) -> SecondPartials {
+        or_panic(self.try_second_partials(r, lat, lon))
+    }
+
+    /// [`second_partials`](Self::second_partials) as a `Result`. No field that can be made is refused.
+    pub fn try_second_partials(&self, r: f64, lat: f64, lon: f64) -> Result<SecondPartials, Refusal> {
+        self.at_point(lengths::second_partials, points::second_partials, (r, lat, lon))
+    }
+
+    /// [`second_partials`](Self::second_partials) at many points `(r, lat, lon)`, with the recursion coefficients of the tables
+    /// worked out once. Added: the published crate has no such call.
+    ///
+    /// ```
+    /// let mut field = geopotential::Coefficients::zeros(8.0, 1.0, 2);
+    /// field.set(2, 1, 1e-3, 2e-3);
+    /// let orbit = [(2.0, 0.3, 1.0), (2.5, -0.4, 6.0)];
+    /// let along = field.second_partials_along(&orbit);
+    /// assert_eq!(along[1], field.second_partials(2.5, -0.4, 6.0));
+    /// ```
+    ///
+    /// # Panics
+    /// If there are more than 65,535 points.
+    #[track_caller]
+    pub fn second_partials_along(&self, points: &[(f64, f64, f64)]) -> Vec<SecondPartials> {
+        or_panic(self.try_second_partials_along(points))
+    }
+
+    /// [`second_partials_along`](Self::second_partials_along), refused instead of a panic.
+    pub fn try_second_partials_along(&self, points: &[(f64, f64, f64)]) -> Result<Vec<SecondPartials>, Refusal> {
+        self.along_points(lengths::second_partials_along, points::second_partials_along, SecondPartials::of, points)
+    }
+
     /// `V` and its partial derivatives at geocentric radius `r` (m), latitude `lat` and longitude
     /// `lon` (radians). No division by `cos φ`: at a pole the sums are what the recursion gives there.
     ///
@@ -52,12 +186,7 @@ impl Coefficients {
     /// assert_eq!(at.acceleration_neu(2.0, 0.3), [0.0, 0.0, -2.0]);
     /// ```
     pub fn partials(&self, r: f64, lat: f64, lon: f64) -> Partials {
-        let [_, _, trig, work, _] = or_panic(lengths::partials(self.nmax));
-        workspace::lend(|lists| {
-            let (trig, work) = (lists.trig.front(trig), lists.work.front(work));
-            put_longitudes(trig, [lon].into_iter(), self.nmax);
-            or_panic(points::partials(self, r, lat.sin_cos(), trig, work))
-        })
+        or_panic(self.at_point(lengths::partials, points::partials, (r, lat, lon)))
     }
 
     /// [`partials`](Self::partials) at many points `(r, lat, lon)`, with the recursion coefficients of the tables worked out
@@ -80,16 +209,7 @@ impl Coefficients {
 
     /// [`partials_along`](Self::partials_along), refused instead of a panic.
     pub fn try_partials_along(&self, points: &[(f64, f64, f64)]) -> Result<Vec<Partials>, Refusal> {
-        let [_, _, radii, latitudes, trig, work, out] = lengths::partials_along(self.nmax, points.len())?;
-        workspace::lend(|lists| {
-            let (radii, latitudes, trig) = (lists.radii.front(radii), lists.latitudes.front(latitudes), lists.trig.front(trig));
-            let (work, out) = (lists.work.front(work), lists.numbers.front(out));
-            radii.iter_mut().zip(points).for_each(|(radius, &(r, _, _))| *radius = r);
-            put_latitudes(latitudes, points.iter().map(|&(_, lat, _)| lat));
-            put_longitudes(trig, points.iter().map(|&(_, _, lon)| lon), self.nmax);
-            points::partials_along(self, Points { count: points.len(), radii, latitudes, trig }, work, out)?;
-            Ok(out.as_chunks().0.iter().map(Partials::of).collect())
-        })
+        self.along_points(lengths::partials_along, points::partials_along, Partials::of, points)
     }
 
     /// A functional on the grid `lats × lons` (radians) at radius `r`, row-major by latitude:

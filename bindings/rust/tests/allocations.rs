@@ -50,6 +50,8 @@ fn grids_and_points() {
     assert_eq!(again(|| field.partials(2.5, 0.3, 1.0)), 0);
     assert_eq!(again(|| field.partials(2.5, 0.3, 1.0).gravity_neu(2.5, 0.3, 0.1)), 0);
     assert_eq!(again(|| field.partials_along(&[(2.5, 0.3, 1.0); 7])), 1);
+    assert_eq!(again(|| field.second_partials(2.5, 0.3, 1.0).tensor_neu(2.5, 0.3)), 0);
+    assert_eq!(again(|| field.second_partials_along(&[(2.5, 0.3, 1.0); 7])), 1);
     assert_eq!(again(|| Coefficients::analysis(&Functional::GeoidHeight, 2.5, &values, 20, 8.0, 2.0)), 2, "c and s");
     assert_eq!(again(|| basin_average(&field, &field, &Functional::Potential, 2.5)), 0);
     // A smaller call takes the front of the lists.

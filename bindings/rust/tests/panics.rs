@@ -23,6 +23,7 @@ fn sizes() {
     panics(Refusal::Size, || Functional::GeoidHeight.factor(2701, 1.0, 1.0, 1.0));
     panics(Refusal::Size, || field.grid(&Functional::Potential, 1.0, &many, &[]));
     panics(Refusal::Size, || field.partials_along(&vec![(1.0, 0.0, 0.0); 65_536]));
+    panics(Refusal::Size, || field.second_partials_along(&vec![(1.0, 0.0, 0.0); 65_536]));
     panics(Refusal::Size, || Coefficients::analysis(&Functional::Potential, 1.0, &[], 2701, 1.0, 1.0));
     panics(Refusal::Size, || symmetric_eigen(&[], 513));
     panics(Refusal::Size, || householder_ql(&[], 513));

@@ -59,7 +59,7 @@ fn sizes_of_zero() {
     let field = field(3);
     assert!(field.grid(&Functional::Potential, 7e6, &[], &[0.0, 1.0]).is_empty());
     assert!(field.grid(&Functional::Potential, 7e6, &[0.5], &[]).is_empty());
-    assert!(field.partials_along(&[]).is_empty());
+    assert!(field.partials_along(&[]).is_empty() && field.second_partials_along(&[]).is_empty());
     assert_eq!(polar_cap(0, 1.0).len(), 1);
     let (lats, lons) = gauss_grid(0);
     assert_eq!((lats, lons.len()), (vec![0.0], 2));

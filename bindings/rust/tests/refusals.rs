@@ -44,6 +44,8 @@ fn rows_longitudes_and_points_above_65535() {
     let points = vec![(2.0, 0.1, 0.2); 65_536];
     assert_eq!(field.try_partials_along(&points), Err(Refusal::Size));
     assert_eq!(field.try_partials_along(&points[1..]).map(|along| along.len()), Ok(65_535));
+    assert_eq!(field.try_second_partials_along(&points), Err(Refusal::Size));
+    assert_eq!(field.try_second_partials_along(&points[1..]).map(|along| along.len()), Ok(65_535));
 }
 
 #[test]

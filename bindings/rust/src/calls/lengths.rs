@@ -47,6 +47,10 @@ lengths! {
     fn partials(nmax) -> 5 = geopotential_partials_lengths;
     /// c, s, radii, latitudes, trig, work, out.
     fn partials_along(nmax, points) -> 7 = geopotential_partials_along_lengths;
+    /// c, s, trig, work, out.
+    fn second_partials(nmax) -> 5 = geopotential_second_partials_lengths;
+    /// c, s, radii, latitudes, trig, work, out.
+    fn second_partials_along(nmax, points) -> 7 = geopotential_second_partials_along_lengths;
     /// love, values, weights, latitudes, trig, work, c, s.
     fn analysis(nmax) -> 8 = geopotential_analysis_lengths;
     /// a, work, values, vectors.
@@ -103,9 +107,11 @@ mod tests {
             assert_eq!(legendre_compute_with_derivative(n), Ok([t; 4]));
             assert_eq!(grid(n, 5, 9), Ok([t, t, n + 1, 10, 9 * trig, 3 * t + 3 * (n + 1), 45]));
             assert_eq!(analysis(n), Ok([n + 1, (n + 1) * trig, n + 1, trig, 2 * (n + 1) * trig, 3 * t, t, t]));
-            // The four numbers of `Partials`, whose place is an array.
+            // The four numbers of `Partials` and the ten of `SecondPartials`, whose place is an array.
             assert_eq!(partials(n), Ok([t, t, trig, 4 * t, 4]));
             assert_eq!(partials_along(n, 5), Ok([t, t, 5, 10, 5 * trig, 4 * t, 20]));
+            assert_eq!(second_partials(n), Ok([t, t, trig, 5 * t, 10]));
+            assert_eq!(second_partials_along(n, 5), Ok([t, t, 5, 10, 5 * trig, 5 * t, 50]));
         }
     }
 
@@ -147,10 +153,12 @@ mod tests {
             assert_eq!(truncated(n, 0), Err(Refusal::Size));
             assert_eq!(analysis(n), Err(Refusal::Size));
             assert_eq!(partials(n), Err(Refusal::Size));
+            assert_eq!(second_partials(n), Err(Refusal::Size));
         }
         assert_eq!(grid(2, 65_536, 0), Err(Refusal::Size));
         assert_eq!(grid(2, 0, 65_536), Err(Refusal::Size));
         assert_eq!(partials_along(2, 65_536), Err(Refusal::Size));
+        assert_eq!(second_partials_along(2, 65_536), Err(Refusal::Size));
         assert_eq!(gauss_legendre(2702), Err(Refusal::Size));
         assert_eq!(symmetric_eigen(513), Err(Refusal::Size));
         assert_eq!(householder_ql(513), Err(Refusal::Size));

@@ -272,6 +272,64 @@ unsafe extern "C" {
         out: *mut f64,
         out_len: usize,
     ) -> u32;
+    /// Writes v, dr, dlat, dlon, drr, dlatlat, dlonlon, drlat, drlon, dlatlon.
+    pub fn geopotential_second_partials(
+        gm: f64,
+        radius: f64,
+        nmax: usize,
+        c: *const f64,
+        c_len: usize,
+        s: *const f64,
+        s_len: usize,
+        r: f64,
+        t: f64,
+        u: f64,
+        trig: *const f64,
+        trig_len: usize,
+        work: *mut f64,
+        work_len: usize,
+        out: *mut f64,
+        out_len: usize,
+    ) -> u32;
+    /// The same at many points, ten numbers for each.
+    pub fn geopotential_second_partials_along(
+        gm: f64,
+        radius: f64,
+        nmax: usize,
+        c: *const f64,
+        c_len: usize,
+        s: *const f64,
+        s_len: usize,
+        points: usize,
+        radii: *const f64,
+        radii_len: usize,
+        latitudes: *const f64,
+        latitudes_len: usize,
+        trig: *const f64,
+        trig_len: usize,
+        work: *mut f64,
+        work_len: usize,
+        out: *mut f64,
+        out_len: usize,
+    ) -> u32;
+    /// Writes nine numbers, row by row.
+    pub fn geopotential_tensor_neu(
+        v: f64,
+        dr: f64,
+        dlat: f64,
+        dlon: f64,
+        drr: f64,
+        dlatlat: f64,
+        dlonlon: f64,
+        drlat: f64,
+        drlon: f64,
+        dlatlon: f64,
+        r: f64,
+        t: f64,
+        u: f64,
+        out: *mut f64,
+        out_len: usize,
+    ) -> u32;
 
     pub fn geopotential_symmetric_eigen(
         n: usize,

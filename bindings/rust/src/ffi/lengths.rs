@@ -15,6 +15,8 @@ unsafe extern "C" {
     pub fn geopotential_grid_lengths(nmax: usize, rows: usize, longitudes: usize, lengths: *mut usize, lengths_len: usize) -> u32;
     pub fn geopotential_partials_lengths(nmax: usize, lengths: *mut usize, lengths_len: usize) -> u32;
     pub fn geopotential_partials_along_lengths(nmax: usize, points: usize, lengths: *mut usize, lengths_len: usize) -> u32;
+    pub fn geopotential_second_partials_lengths(nmax: usize, lengths: *mut usize, lengths_len: usize) -> u32;
+    pub fn geopotential_second_partials_along_lengths(nmax: usize, points: usize, lengths: *mut usize, lengths_len: usize) -> u32;
     pub fn geopotential_analysis_lengths(nmax: usize, lengths: *mut usize, lengths_len: usize) -> u32;
     pub fn geopotential_symmetric_eigen_lengths(n: usize, lengths: *mut usize, lengths_len: usize) -> u32;
     pub fn geopotential_householder_ql_lengths(n: usize, lengths: *mut usize, lengths_len: usize) -> u32;
