@@ -46,4 +46,5 @@ pub mod sample;
 pub mod scale;
 pub mod span;
 pub mod technical_note;
+pub mod tensor;
 pub mod text;

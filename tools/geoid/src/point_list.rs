@@ -64,6 +64,17 @@ impl Point {
     }
 }
 
+impl Place {
+    /// A vector's components north, east and up along the radius as those by the list's latitudes: north and up turn about east.
+    pub fn turned(&self, [north, east, up]: [f64; 3]) -> [f64; 3] {
+        if self.tilt == 0.0 {
+            return [north, east, up];
+        }
+        let (sin, cos) = self.tilt.sin_cos();
+        [north * cos - up * sin, east, north * sin + up * cos]
+    }
+}
+
 /// Load a list.
 pub fn load(path: &Path) -> Result<PointList, Error> {
     parse(&decoded(&read_whole(path)?)).map_err(|fault| fault.in_file(path))

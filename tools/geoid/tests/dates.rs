@@ -298,29 +298,27 @@ fn a_date_names_the_solution_about_it() {
 fn a_month_that_contradicts_the_date_is_refused() {
     let folder = Folder::new();
     let (march, april, may) = ("2024-03-01 to 2024-04-01", "2024-04-01 to 2024-05-10", "2024-05-01 to 2024-06-01");
+    let out = folder.file("out.model");
     // Any day of the month or of the solution is as good as its middle.
-    for (date, month, expected) in [
-        ("2024-03-15", "2024-03", march),
-        ("2024-03-01", "2024-03", march),
-        ("2024-03-31", "2024-03-15", march),
-        ("2024-05-05", "2024-04", april),
-        ("2024-05-05", "2024-05", may),
-        ("2024-05-05", "2024-05-20", may),
-    ] {
-        assert_eq!(replaced(&folder, date, &["--month", month]).as_deref(), Ok(expected), "{date} {month}");
-    }
-    for (date, month, solution) in [
-        ("2024-03-15", "2024-04", april),
-        ("2009-11-14", "2024-03", march),
-        ("2024-03-31", "2024-04", april),
-        ("2024-04-01", "2024-03-15", march),
-        ("2024-06-01", "2024-05-20", may),
+    for (date, month, solution, taken) in [
+        ("2024-03-15", "2024-03", march, true),
+        ("2024-03-01", "2024-03", march, true),
+        ("2024-03-31", "2024-03-15", march, true),
+        ("2024-05-05", "2024-04", april, true),
+        ("2024-05-05", "2024-05", may, true),
+        ("2024-05-05", "2024-05-20", may, true),
+        ("2024-03-15", "2024-04", april, false),
+        ("2009-11-14", "2024-03", march, false),
+        ("2024-03-31", "2024-04", april, false),
+        ("2024-04-01", "2024-03-15", march, false),
+        ("2024-06-01", "2024-05-20", may, false),
     ] {
         let said = format!("its date is {date}, but the solution for --month {month} is that of {solution}");
         let way = "expected a --month about its date, or another date by geoid convert --date first";
-        fs::remove_file(folder.file("out.model")).unwrap_or_default();
-        assert_eq!(replaced(&folder, date, &["--month", month]), Err(format!("/m.model: {said}; {way}")));
-        assert!(!fs::exists(folder.file("out.model")).unwrap());
+        let due = if taken { Ok(solution.to_string()) } else { Err(format!("/m.model: {said}; {way}")) };
+        fs::remove_file(&out).unwrap_or_default();
+        assert_eq!(replaced(&folder, date, &["--month", month]), due, "{date} {month}");
+        assert_eq!(fs::exists(&out).unwrap(), taken);
     }
     let words = ["replace", &folder.file("m.model"), &folder.file("o"), "--c20", &folder.file("TN-14.txt"), "--month", "2024-03"];
     assert_eq!(Command::new(env!("CARGO_BIN_EXE_geoid")).args(words).status().unwrap().code(), Some(1));

@@ -1,11 +1,12 @@
-//! Potential, gravity and geoid height at points.
+//! Potential, gravity, geoid height and the gradient tensor at points.
 
 mod support;
 
 use std::fs;
 use std::process::Command;
 
-use geopotential::model_file;
+use geoid::normal::GRS80;
+use geopotential::{Coefficients, model_file};
 use support::{Folder, geoid};
 
 /// Points, and what GeographicLib 2.1.2's `Gravity -G -p 13` says of the sample field of degree 96 (as a model of its own,
@@ -138,4 +139,151 @@ fn lists_that_are_wrong_are_named() {
     assert_eq!(refused("lat,lon,height\n10,20\n"), "/list.csv: line 2: 2 fields; expected 3, as in the line of names");
     assert!(refused("10,20,0\n").contains("line 1: no column latitude"));
     assert!(geoid(&["points", &model]).unwrap_err().starts_with("--at LIST.csv is missing"));
+}
+
+/// The sample of a degree and a list, as files.
+fn sample_and_list(folder: &Folder, degree: &str, list: &str) -> [String; 2] {
+    let [model, path] = ["m.model", "list.csv"].map(|name| folder.file(name));
+    geoid(&["sample", &model, "--degree", degree]).unwrap();
+    fs::write(&path, list).unwrap();
+    [model, path]
+}
+
+/// The tensor's numbers of each point: Vnn, Vne, Vnu, Vee, Veu, Vuu and the trace.
+fn tensors(model: &str, list: &str) -> Vec<Vec<f64>> {
+    numbers(&geoid(&["points", model, "--at", list, "--tensor"]).unwrap(), 7)
+}
+
+#[test]
+fn the_tensor_of_a_point_mass() {
+    let folder = Folder::new();
+    let [model, list] = ["m.model", "list.csv"].map(|name| folder.file(name));
+    let mut mass = Coefficients::zeros(3.986e14, 6.378e6, 0);
+    mass.set(0, 0, 1.0, 0.0);
+    fs::write(&model, model_file::write(&mass).unwrap()).unwrap();
+    let near = |found: &[f64], due: [f64; 7]| {
+        assert!(found.iter().zip(due).all(|(found, due)| (found - due).abs() < 1e-11), "{found:?}, due {due:?}");
+    };
+    fs::write(&list, "lat,lon,radius\n-50,10,7000000\n").unwrap();
+    let cube = 1e9 * 3.986e14 / 7e6f64.powi(3);
+    near(&tensors(&model, &list)[0], [-cube, 0.0, 0.0, -cube, 0.0, 2.0 * cube, 0.0]);
+    // By the ellipsoid's normal, which leans away from the radius.
+    fs::write(&list, "lat,lon,height\n-50,10,20000\n").unwrap();
+    let (latitude, radius) = GRS80.geocentric_above(-50f64.to_radians(), 2e4);
+    let (cube, (sin, cos)) = (1e9 * 3.986e14 / radius.powi(3), (-50f64.to_radians() - latitude).sin_cos());
+    let (nn, nu, uu) = (2.0 * sin * sin - cos * cos, -3.0 * sin * cos, 2.0 * cos * cos - sin * sin);
+    near(&tensors(&model, &list)[0], [nn * cube, 0.0, nu * cube, -cube, 0.0, uu * cube, 0.0]);
+}
+
+#[test]
+fn the_tensor_stands_behind_the_other_columns() {
+    let folder = Folder::new();
+    let [model, list] = sample_and_list(&folder, "24", LIST);
+    let out = folder.file("out.csv");
+    let plain = geoid(&["points", &model, "--at", &list]).unwrap();
+    let with = geoid(&["points", &model, "--at", &list, "--tensor"]).unwrap();
+    for (line, longer) in plain.lines().zip(with.lines()) {
+        assert!(longer.starts_with(&format!("{line},")) && longer.matches(',').count() == line.matches(',').count() + 7, "{longer}");
+    }
+    let names = "geoid height (m),gradient Vnn (E),gradient Vne (E),gradient Vnu (E),gradient Vee (E),gradient Veu (E),gradient Vuu (E)";
+    assert!(with.lines().next().unwrap().ends_with(&format!("{names},trace Vnn+Vee+Vuu (E)")), "{with}");
+    // Neither the rotation nor the normal field has a part in it.
+    let others = geoid(&["points", &model, "--at", &list, "--tensor", "--omega", "0", "--normal", "none", "--out", &out]);
+    assert_eq!(others.unwrap(), format!("{out}: 7 points\n"));
+    assert_eq!(numbers(&fs::read_to_string(&out).unwrap(), 7), numbers(&with, 7));
+}
+
+#[test]
+fn tensors_at_radii_have_the_librarys_bits() {
+    let folder = Folder::new();
+    let [model, list] = sample_and_list(&folder, "24", "radius,lon,lat\n6878137,200,-33.25\n7e6,-10,80\n");
+    let field = model_file::read(&fs::read(&model).unwrap()).unwrap();
+    for (row, (r, lat, lon)) in tensors(&model, &list).iter().zip([(6878137.0, -33.25f64, 200f64), (7e6, 80.0, -10.0)]) {
+        let lat = lat.to_radians();
+        let [[nn, ne, nu], [_, ee, eu], [_, _, uu]] =
+            field.second_partials(r, lat, lon.to_radians()).tensor_neu(r, lat).map(|row| row.map(|entry| 1e9 * entry));
+        assert_eq!(row[..], [nn, ne, nu, ee, eu, uu, nn + ee + uu]);
+    }
+}
+
+#[test]
+fn tensors_at_heights_are_those_at_radii_turned() {
+    let folder = Folder::new();
+    let [model, list] = sample_and_list(&folder, "36", "lat,lon,h\n66.5,73.5,12\n-45,170.25,-100\n0,10,0\n12.5,-77,500000\n");
+    let by_height = tensors(&model, &list);
+    let geodetic = [(66.5f64, 73.5, 12.0), (-45.0, 170.25, -100.0), (0.0, 10.0, 0.0), (12.5, -77.0, 5e5)];
+    let places = geodetic.map(|(lat, lon, height)| (GRS80.geocentric_above(lat.to_radians(), height), lat.to_radians(), lon));
+    let lines = places.map(|((lat, r), _, lon)| format!("{:?},{lon},{r:?}\n", lat.to_degrees()));
+    fs::write(&list, format!("lat,lon,r\n{}", lines.concat())).unwrap();
+    let by_radius = tensors(&model, &list);
+    for ((turned, at), ((geocentric, _), geodetic, _)) in by_height.iter().zip(&by_radius).zip(places) {
+        let [nn, ne, nu, ee, eu, uu, trace] = at[..] else { panic!("{at:?}") };
+        let (s, c) = (geodetic - geocentric).sin_cos();
+        let due = [
+            c * c * nn - 2.0 * c * s * nu + s * s * uu,
+            c * ne - s * eu,
+            c * s * (nn - uu) + (c * c - s * s) * nu,
+            ee,
+            s * ne + c * eu,
+            s * s * nn + 2.0 * c * s * nu + c * c * uu,
+            trace,
+        ];
+        assert!(turned.iter().zip(due).all(|(found, due)| (found - due).abs() < 1e-10), "{turned:?}, due {due:?}");
+    }
+}
+
+#[test]
+fn the_tensor_is_what_gravity_changes_by_along_the_normal() {
+    let folder = Folder::new();
+    let [model, list] = sample_and_list(&folder, "96", "lat,lon,h\n66.5,73.5,1000\n-45,170.25,1000\n12.5,-77,500000\n");
+    let tensors = tensors(&model, &list);
+    // North, east and up of gravity without a rotation, so many metres higher.
+    let gravity = |metres: f64| {
+        let lines = [("66.5,73.5", 1e3), ("-45,170.25", 1e3), ("12.5,-77", 5e5)].map(|(at, h)| format!("{at},{:?}\n", h + metres));
+        fs::write(&list, format!("lat,lon,h\n{}", lines.concat())).unwrap();
+        numbers(&geoid(&["points", &model, "--at", &list, "--omega", "0"]).unwrap(), 5)
+    };
+    for ((tensor, above), below) in tensors.iter().zip(gravity(50.0)).zip(gravity(-50.0)) {
+        for (entry, column) in [(2, 1), (4, 2), (5, 3)] {
+            let change = 1e9 * (above[column] - below[column]) / 100.0;
+            assert!((tensor[entry] - change).abs() < 1e-5, "{tensor:?}, {change}");
+        }
+    }
+}
+
+#[test]
+fn traces_are_rounding_but_at_a_pole() {
+    let folder = Folder::new();
+    let [model, list] = sample_and_list(&folder, "96", LIST);
+    let run = |list: &str| {
+        let done = Command::new(env!("CARGO_BIN_EXE_geoid")).args(["points", &model, "--at", list, "--tensor"]).output().unwrap();
+        (numbers(std::str::from_utf8(&done.stdout).unwrap(), 7), String::from_utf8(done.stderr).unwrap())
+    };
+    let (rows, notes) = run(&list);
+    for (row, line) in rows.iter().zip(LIST.lines().skip(1)) {
+        assert_eq!(row[6].abs() > 1e-10, line.contains("pole"), "{line}: {row:?}");
+    }
+    assert!(notes.contains("2 of 7 points have a trace above a millionth of the largest entry"), "{notes}");
+    fs::write(&list, LIST.lines().filter(|line| !line.contains("pole")).collect::<Vec<_>>().join("\n")).unwrap();
+    assert!(!run(&list).1.contains("trace"));
+}
+
+#[test]
+fn more_points_than_one_call_takes() {
+    let folder = Folder::new();
+    let line = "50,10,7000000\n";
+    let [model, list] = sample_and_list(&folder, "2", &format!("lat,lon,radius\n{}", line.repeat(65_537)));
+    let rows = tensors(&model, &list);
+    assert_eq!(rows.len(), 65_537);
+    assert!(rows[0][5] > 2000.0 && rows.iter().all(|row| *row == rows[0]));
+}
+
+#[test]
+fn the_tensors_option_is_told() {
+    let help = geoid(&["points", "--help"]).unwrap();
+    for said in ["--tensor", "(1 E = 1e-9/s^2)", "V is the gravitational potential of the whole field", "no centrifugal part", "Laplace"] {
+        assert!(help.contains(said), "{said}");
+    }
+    assert_eq!(geoid(&["points", "a", "--tensor=yes"]).unwrap_err(), "option --tensor takes no value; see geoid points --help");
+    assert_eq!(geoid(&["grid", "a", "--tensor"]).unwrap_err(), "unknown option '--tensor'; see geoid grid --help");
 }
