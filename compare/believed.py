@@ -70,23 +70,25 @@ def follow(file, name, seen):
 
 
 def promises(source):
-    """The public functions of a source file without a requires, each with the text of its ensures."""
+    """The public functions of a source file without a requires, each with the names in its ensures."""
     text = source.read_text()
     for found in re.finditer(r'pub (?:extern "C" )?fn (\w+)\(', text):
         end = re.search(r"\{\n", text[found.end() :])
         contract = text[found.end() : found.end() + end.start()]
         if "ensures" in contract and "requires" not in contract:
-            yield found[1], contract[contract.index("ensures") :]
+            # a parameter's name is no definition's, also where one has the same
+            parameters, ensures = contract[: contract.index("ensures")], contract[contract.index("ensures") :]
+            yield found[1], set(WORD.findall(ensures)) - set(re.findall(r"(\w+):", parameters))
 
 
-def believed(source, contract):
-    """The files behind a contract."""
+def believed(source, named):
+    """The files behind a contract in which these names stand."""
     text = source.read_text()
     seen = set()
     for module, names in re.findall(r"ghost use (\S+)\.\{([^}]*)\};", text):
         there = home(module)
         for name in (n.strip() for n in names.split(",")):
-            if there is not None and all(p in set(WORD.findall(contract)) for p in parts(name)):
+            if there is not None and all(p in named for p in parts(name)):
                 follow(there, name, seen)
     return sorted({f for f, _ in seen})
 
@@ -96,7 +98,7 @@ HELPERS = re.compile(r"storage::|refusal::|(?:answer|refusal|index|model|reading
 
 PAGE = """# What a reader must believe
 
-A **public call** is a function that document 01 or 02 names, or that stands beside those (`root_near`, `partials_along`, `second_partials_along`, the
+A **public call** is a function that document 01 or 02 names, or that stands beside those (`root_near`, `grow`, `partials_along`, `second_partials_along`, the
 lengths): it has no `requires` and answers every input. Every other function is a **kernel**: private where nothing outside its crate uses it; where another crate does,
 it is public to the language, and what it requires is proved at each of its calls. This page is what `compare/believed.py` prints: it follows names
 through the texts of promises and definitions, and the prover has no part in it.

@@ -124,25 +124,21 @@ impl Head {
         ensures { λ r. ⌜ now (c .exit) ≡ after (outcome r) (fill 0 zeroAt (tableSize nmax) (now (c .entry))) (now (c .entry)) ⌝ }
         ensures { λ r. ⌜ now (s .exit) ≡ after (outcome r) (fill 0 zeroAt (tableSize nmax) (now (s .entry))) (now (s .entry)) ⌝ }
     {
-        if nmax > storage::MAX_DEGREE {
-            return Model::Refused(Refusal::Size);
+        match storage::room_check(nmax, c.len(), s.len()) {
+            Answer::Refused(e) => Model::Refused(e),
+            Answer::Done => {
+                let size = storage::table_size(nmax);
+                storage::clear(size, c);
+                storage::clear(size, s);
+                Model::Made(Head {
+                    gm,
+                    radius,
+                    tide_system: TideSystem::Unknown,
+                    date: Date::None,
+                    nmax,
+                })
+            }
         }
-        let size = storage::table_size(nmax);
-        if c.len() < size {
-            return Model::Refused(Refusal::Space);
-        }
-        if s.len() < size {
-            return Model::Refused(Refusal::Space);
-        }
-        storage::clear(size, c);
-        storage::clear(size, s);
-        Model::Made(Head {
-            gm,
-            radius,
-            tide_system: TideSystem::Unknown,
-            date: Date::None,
-            nmax,
-        })
     }
 
     // C(n,m).

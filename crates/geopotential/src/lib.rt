@@ -14,6 +14,6 @@ mod matrices;
 pub mod models;
 mod numbers;
 pub mod points;
-mod tables;
+pub mod tables;
 pub mod tensors;
 mod version;

@@ -119,6 +119,14 @@ pub extern "C" fn geopotential_legendre_new_lengths(nmax: usize, lengths: &mut [
 }
 
 #[no_mangle]
+pub extern "C" fn geopotential_legendre_grow_lengths(nmax: usize, lengths: &mut [usize]) -> u32
+    ensures { λ x. ⌜ x ≡ answerNumber (lengthsCheck (degreeSize nmax) (tablesLengths 2 nmax) (length (now (lengths .entry)))) ⌝ }
+    ensures { λ x. ⌜ now (lengths .exit) ≡ lengthsAfter (degreeSize nmax) (tablesLengths 2 nmax) (now (lengths .entry)) ⌝ }
+{
+    refusal::answer_number(lengths::legendre_grow(nmax, lengths))
+}
+
+#[no_mangle]
 pub extern "C" fn geopotential_legendre_compute_lengths(nmax: usize, lengths: &mut [usize]) -> u32
     ensures { λ x. ⌜ x ≡ answerNumber (lengthsCheck (degreeSize nmax) (tablesLengths 3 nmax) (length (now (lengths .entry)))) ⌝ }
     ensures { λ x. ⌜ now (lengths .exit) ≡ lengthsAfter (degreeSize nmax) (tablesLengths 3 nmax) (now (lengths .entry)) ⌝ }

@@ -11,6 +11,7 @@ ghost use Rattle.storage.specs.Triangle.{tableSize, along};
 ghost use Rattle.recursion.specs.Recursion.{aCell, bCell, pCell};
 ghost use Rattle.derivative.specs.Derivative.{dpCell};
 ghost use Rattle.legendre.specs.Checks.{computeCheck};
+ghost use Rattle.legendre.specs.Grown.{grown};
 ghost use Rattle.quadrature.specs.Gauss.{gaussCheck, gaussNode, gaussWeight};
 
 #[no_mangle]
@@ -22,6 +23,22 @@ pub extern "C" fn geopotential_legendre_new(nmax: usize, a: &mut [f64], b: &mut 
         (fill 0 (along bCell) (tableSize nmax) (now (b .entry))) (now (b .entry)) ⌝ }
 {
     refusal::answer_number(legendre::new(nmax, a, b))
+}
+
+#[no_mangle]
+pub extern "C" fn geopotential_legendre_grow(
+    from: usize,
+    nmax: usize,
+    a: &mut [f64],
+    b: &mut [f64],
+) -> u32
+    ensures { λ r. ⌜ r ≡ answerNumber (roomCheck nmax (length (now (a .entry))) (length (now (b .entry)))) ⌝ }
+    ensures { λ r. ⌜ now (a .exit) ≡ after (roomCheck nmax (length (now (a .entry))) (length (now (b .entry))))
+        (grown aCell from nmax (now (a .entry))) (now (a .entry)) ⌝ }
+    ensures { λ r. ⌜ now (b .exit) ≡ after (roomCheck nmax (length (now (a .entry))) (length (now (b .entry))))
+        (grown bCell from nmax (now (b .entry))) (now (b .entry)) ⌝ }
+{
+    refusal::answer_number(legendre::grow(from, nmax, a, b))
 }
 
 #[no_mangle]

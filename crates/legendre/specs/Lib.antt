@@ -2,3 +2,5 @@ pub mod Rows
 pub mod Directions
 pub mod Checks
 pub mod Stored
+pub mod Grown
+pub mod Laws

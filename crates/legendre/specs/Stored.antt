@@ -13,14 +13,15 @@ use Rattle.storage.specs.Filled.{filled, filled-in}
 use Rattle.storage.specs.Triangle.{idx, tableSize, along, rows-at, idx-within}
 use Rattle.recursion.specs.Recursion.{aCell, bCell, pCell, p-same}
 use Rattle.legendre.specs.Directions.{rowSine, rowCosine, legendreRow}
+use Rattle.legendre.specs.Grown.{made}
 
 module _ (N : ℕ) (a b p : List Float) (ra : tableSize N ≤ length a) (rb : tableSize N ≤ length b) (rp : tableSize N ≤ length p) where
   -- what `new` leaves in a and b
   abbrev pub newA : List Float
-  newA = fill 0 (along aCell) (tableSize N) a
+  newA = made aCell N a
 
   abbrev pub newB : List Float
-  newB = fill 0 (along bCell) (tableSize N) b
+  newB = made bCell N b
 
   -- what `compute` leaves in p at the pair t, u, from these
   abbrev pub computed : Float → Float → List Float

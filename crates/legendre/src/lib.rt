@@ -8,18 +8,17 @@ use refusal::Answer;
 use refusal::Number;
 use refusal::Refusal;
 ghost use mathlib.Core.Path.{_≡_};
-ghost use Prim.Native.Nat.{ℕ, _≤_};
 ghost use lib.ListN.{length};
 ghost use lib.Ieee.{nan};
 ghost use Rattle.refusal.specs.Numbers.{after};
 ghost use Rattle.storage.specs.Checks.{roomCheck, outputsCheck, entryAnswer};
 ghost use Rattle.storage.specs.Elements.{from};
 ghost use Rattle.storage.specs.Fill.{fill};
-ghost use Rattle.storage.specs.Filled.{Filled};
 ghost use Rattle.storage.specs.Triangle.{tableSize, along};
 ghost use Rattle.recursion.specs.Recursion.{aCell, bCell, pCell};
 ghost use Rattle.derivative.specs.Derivative.{dpCell};
 ghost use Rattle.legendre.specs.Checks.{computeCheck};
+ghost use Rattle.legendre.specs.Grown.{grown};
 
 // A geocentric latitude by its sine t and its cosine u.
 pub struct Latitude {
@@ -27,25 +26,41 @@ pub struct Latitude {
     pub u: f64,
 }
 
-// The recursion coefficients up to degree nmax.
+// The recursion coefficients up to degree nmax, row after row along their storage.
 pub fn new(nmax: usize, a: &mut [f64], b: &mut [f64]) -> Answer
     ensures { λ r. ⌜ r ≡ roomCheck nmax (length (now (a .entry))) (length (now (b .entry))) ⌝ }
     ensures { λ r. ⌜ now (a .exit) ≡ after r (fill 0 (along aCell) (tableSize nmax) (now (a .entry))) (now (a .entry)) ⌝ }
     ensures { λ r. ⌜ now (b .exit) ≡ after r (fill 0 (along bCell) (tableSize nmax) (now (b .entry))) (now (b .entry)) ⌝ }
 {
-    if nmax > storage::MAX_DEGREE {
-        return Answer::Refused(Refusal::Size);
+    match storage::room_check(nmax, a.len(), b.len()) {
+        Answer::Refused(e) => Answer::Refused(e),
+        Answer::Done => {
+            recursion::a_table(0, 0, nmax, a);
+            recursion::b_table(0, 0, nmax, b);
+            Answer::Done
+        }
     }
-    let size = storage::table_size(nmax);
-    if a.len() < size {
-        return Answer::Refused(Refusal::Space);
+}
+
+// The rows of the recursion coefficients above degree `from` and up to degree nmax, behind those up to `from`, which are neither read nor written. Where
+// these are the rows of `new`, the lists are then as `new` would have left them.
+pub fn grow(from: usize, nmax: usize, a: &mut [f64], b: &mut [f64]) -> Answer
+    ensures { λ r. ⌜ r ≡ roomCheck nmax (length (now (a .entry))) (length (now (b .entry))) ⌝ }
+    ensures { λ r. ⌜ now (a .exit) ≡ after r (grown aCell from nmax (now (a .entry))) (now (a .entry)) ⌝ }
+    ensures { λ r. ⌜ now (b .exit) ≡ after r (grown bCell from nmax (now (b .entry))) (now (b .entry)) ⌝ }
+{
+    match storage::room_check(nmax, a.len(), b.len()) {
+        Answer::Refused(e) => Answer::Refused(e),
+        Answer::Done => {
+            if from >= nmax {
+                return Answer::Done;
+            }
+            let start = storage::table_size(from);
+            recursion::a_table(from + 1, start, nmax, a);
+            recursion::b_table(from + 1, start, nmax, b);
+            Answer::Done
+        }
     }
-    if b.len() < size {
-        return Answer::Refused(Refusal::Space);
-    }
-    recursion::a_table(nmax, a);
-    recursion::b_table(nmax, b);
-    Answer::Done
 }
 
 // P(n, m) up to degree nmax at one latitude, from the recursion coefficients a and b.

@@ -90,7 +90,7 @@ module _ (N : ℕ) (ok : Done ≡ degreeSize N) where
   two-tables : {c s : ℕ} → c ≡ tableSize N → s ≡ tableSize N → Done ≡ tablesCheck N c s
   two-tables {c} {s} p q = tables-done N c s top p q
 
-  -- `zeros`, `legendre_new`
+  -- `zeros`, `legendre_new`, `legendre_grow`
   pub zeros-enough : (c s : ℕ) → c ∷ s ∷ [] ≡ tablesLengths 2 N → Done ≡ roomCheck N c s
   unfolding tablesLengths
   zeros-enough c s e =

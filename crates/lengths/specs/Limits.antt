@@ -63,7 +63,7 @@ module _ (N : ℕ) (bad : Refused Size ≡ degreeSize N) where
   pub tables-limit : (c s : ℕ) → Refused Size ≡ tablesCheck N c s
   tables-limit c s = tables-size N c s large
 
-  -- `zeros`, `legendre_new`
+  -- `zeros`, `legendre_new`, `legendre_grow`
   pub zeros-limit : (c s : ℕ) → Refused Size ≡ roomCheck N c s
   zeros-limit c s = room-size N c s large
 

@@ -149,6 +149,14 @@ pub fn legendre_new(nmax: usize, lengths: &mut [usize]) -> Answer
     leaves::tables(2, nmax, lengths)
 }
 
+// `legendre_grow`: a, b.
+pub fn legendre_grow(nmax: usize, lengths: &mut [usize]) -> Answer
+    ensures { λ x. ⌜ x ≡ lengthsCheck (degreeSize nmax) (tablesLengths 2 nmax) (length (now (lengths .entry))) ⌝ }
+    ensures { λ x. ⌜ now (lengths .exit) ≡ lengthsAfter (degreeSize nmax) (tablesLengths 2 nmax) (now (lengths .entry)) ⌝ }
+{
+    leaves::tables(2, nmax, lengths)
+}
+
 // `legendre_compute`: a, b, p.
 pub fn legendre_compute(nmax: usize, lengths: &mut [usize]) -> Answer
     ensures { λ x. ⌜ x ≡ lengthsCheck (degreeSize nmax) (tablesLengths 3 nmax) (length (now (lengths .entry))) ⌝ }

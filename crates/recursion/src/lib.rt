@@ -1,17 +1,24 @@
-// The recursion coefficients of Holmes & Featherstone (2002), row by row along their storage. Each is one correctly rounded root, by way of a
-// guess from a product of tabled roots: nothing is promised of the guesses, and the answer does not depend on them.
+// The recursion coefficients of Holmes & Featherstone (2002), row by row along their storage. Each is one correctly rounded root, where rows are many by
+// way of a guess from a product of tabled roots: nothing is promised of the guesses, and the answer does not depend on them.
 ghost use mathlib.Core.Path.{_≡_};
-ghost use Prim.Native.Nat.{ℕ, _+_, _*_, _≤_, _<_};
+ghost use Prim.Native.Nat.{ℕ, _+_, _-_, _*_, _≤_, _<_};
 ghost use lib.ListN.{length};
 ghost use Rattle.storage.specs.Filled.{Filled};
-ghost use Rattle.storage.specs.Triangle.{tableSize, along};
+ghost use Rattle.storage.specs.Triangle.{rowStart, tableSize, rowsFrom};
 ghost use Rattle.recursion.specs.Recursion.{aCell, bCell};
 ghost use Rattle.recursion.specs.Tables.{withTables};
 
-// About 1/√k at k = 1 .. last.
-fn inverse_roots(last: usize, out: &mut [f64])
-    requires { ⌜ last ≤ 5400 ⌝ ∗ ⌜ last < length (now out) ⌝ }
+// Up to so many rows take less time without guesses: tabling these takes two roots for each order of the last row.
+const FEW_ROWS: usize = 4;
+
+// About 1/√k at k = 1 .. 2 nmax, for the rows from degree `first` to nmax; nothing where these are few.
+fn inverse_roots(first: usize, nmax: usize, out: &mut [f64])
+    requires { ⌜ first ≤ nmax + 1 ⌝ ∗ ⌜ nmax ≤ 2700 ⌝ ∗ ⌜ nmax + nmax < length (now out) ⌝ }
 {
+    if nmax < first + FEW_ROWS {
+        return;
+    }
+    let last = 2 * nmax;
     let mut k = 1;
     while k <= last {
         out[k] = number::root(1.0 / k as f64);
@@ -19,10 +26,14 @@ fn inverse_roots(last: usize, out: &mut [f64])
     }
 }
 
-// About √((k - 1)/k) at k = 1 .. last.
-fn ratio_roots(last: usize, out: &mut [f64])
-    requires { ⌜ last ≤ 5400 ⌝ ∗ ⌜ last < length (now out) ⌝ }
+// About √((k - 1)/k) likewise.
+fn ratio_roots(first: usize, nmax: usize, out: &mut [f64])
+    requires { ⌜ first ≤ nmax + 1 ⌝ ∗ ⌜ nmax ≤ 2700 ⌝ ∗ ⌜ nmax + nmax < length (now out) ⌝ }
 {
+    if nmax < first + FEW_ROWS {
+        return;
+    }
+    let last = 2 * nmax;
     let mut k = 1;
     while k <= last {
         out[k] = number::root((k - 1) as f64 / k as f64);
@@ -80,14 +91,14 @@ fn b_row(n: usize, at: usize, ratio: &[f64], b: &mut [f64])
     b[at + n] = 0.0;
 }
 
-// The table a up to degree nmax; `inverse` is overwritten.
-fn a_rows(nmax: usize, inverse: &mut [f64], a: &mut [f64])
-    requires { ⌜ nmax ≤ 2700 ⌝ ∗ ⌜ nmax + nmax < length (now inverse) ⌝ ∗ ⌜ tableSize nmax ≤ length (now a) ⌝ }
-    ensures { λ r. ⌜ Filled 0 (along aCell) (tableSize nmax) (now (a .entry)) (now (a .exit)) ⌝ }
+// The rows of a from degree `first` to nmax, which start at index `start`; `inverse` may be overwritten.
+fn a_rows(first: usize, start: usize, nmax: usize, inverse: &mut [f64], a: &mut [f64])
+    requires { ⌜ first ≤ nmax + 1 ⌝ ∗ ⌜ start ≡ rowStart first ⌝ ∗ ⌜ nmax ≤ 2700 ⌝ ∗ ⌜ nmax + nmax < length (now inverse) ⌝ ∗ ⌜ tableSize nmax ≤ length (now a) ⌝ }
+    ensures { λ r. ⌜ Filled start (rowsFrom aCell first) (tableSize nmax - start) (now (a .entry)) (now (a .exit)) ⌝ }
 {
-    inverse_roots(2 * nmax, inverse);
-    let mut at = 0;
-    let mut n = 0;
+    inverse_roots(first, nmax, inverse);
+    let mut at = start;
+    let mut n = first;
     while n <= nmax {
         a_row(n, at, inverse, a);
         at = at + n + 1;
@@ -95,14 +106,14 @@ fn a_rows(nmax: usize, inverse: &mut [f64], a: &mut [f64])
     }
 }
 
-// The table b up to degree nmax; `ratio` is overwritten.
-fn b_rows(nmax: usize, ratio: &mut [f64], b: &mut [f64])
-    requires { ⌜ nmax ≤ 2700 ⌝ ∗ ⌜ nmax + nmax < length (now ratio) ⌝ ∗ ⌜ tableSize nmax ≤ length (now b) ⌝ }
-    ensures { λ r. ⌜ Filled 0 (along bCell) (tableSize nmax) (now (b .entry)) (now (b .exit)) ⌝ }
+// The rows of b likewise, with `ratio`.
+fn b_rows(first: usize, start: usize, nmax: usize, ratio: &mut [f64], b: &mut [f64])
+    requires { ⌜ first ≤ nmax + 1 ⌝ ∗ ⌜ start ≡ rowStart first ⌝ ∗ ⌜ nmax ≤ 2700 ⌝ ∗ ⌜ nmax + nmax < length (now ratio) ⌝ ∗ ⌜ tableSize nmax ≤ length (now b) ⌝ }
+    ensures { λ r. ⌜ Filled start (rowsFrom bCell first) (tableSize nmax - start) (now (b .entry)) (now (b .exit)) ⌝ }
 {
-    ratio_roots(2 * nmax, ratio);
-    let mut at = 0;
-    let mut n = 0;
+    ratio_roots(first, nmax, ratio);
+    let mut at = start;
+    let mut n = first;
     while n <= nmax {
         b_row(n, at, ratio, b);
         at = at + n + 1;
@@ -110,41 +121,42 @@ fn b_rows(nmax: usize, ratio: &mut [f64], b: &mut [f64])
     }
 }
 
-// The table a up to degree nmax. A low degree takes a short table of guesses, since clearing the long one takes longer than its rows.
-pub fn a_table(nmax: usize, a: &mut [f64])
-    requires { ⌜ nmax ≤ 2700 ⌝ ∗ ⌜ tableSize nmax ≤ length (now a) ⌝ }
-    ensures { λ r. ⌜ Filled 0 (along aCell) (tableSize nmax) (now (a .entry)) (now (a .exit)) ⌝ }
+// The rows of a from degree `first` to nmax, which start at index `start`. A low degree takes a short table of guesses, since clearing the long one
+// takes longer than its rows.
+pub fn a_table(first: usize, start: usize, nmax: usize, a: &mut [f64])
+    requires { ⌜ first ≤ nmax + 1 ⌝ ∗ ⌜ start ≡ rowStart first ⌝ ∗ ⌜ nmax ≤ 2700 ⌝ ∗ ⌜ tableSize nmax ≤ length (now a) ⌝ }
+    ensures { λ r. ⌜ Filled start (rowsFrom aCell first) (tableSize nmax - start) (now (a .entry)) (now (a .exit)) ⌝ }
 {
     if nmax < 128 {
         let mut inverse = [0.0; 256];
-        a_rows(nmax, &mut inverse, a);
+        a_rows(first, start, nmax, &mut inverse, a);
     } else {
         let mut inverse = [0.0; 5401];
-        a_rows(nmax, &mut inverse, a);
+        a_rows(first, start, nmax, &mut inverse, a);
     }
 }
 
-// The table b up to degree nmax.
-pub fn b_table(nmax: usize, b: &mut [f64])
-    requires { ⌜ nmax ≤ 2700 ⌝ ∗ ⌜ tableSize nmax ≤ length (now b) ⌝ }
-    ensures { λ r. ⌜ Filled 0 (along bCell) (tableSize nmax) (now (b .entry)) (now (b .exit)) ⌝ }
+// The rows of b likewise.
+pub fn b_table(first: usize, start: usize, nmax: usize, b: &mut [f64])
+    requires { ⌜ first ≤ nmax + 1 ⌝ ∗ ⌜ start ≡ rowStart first ⌝ ∗ ⌜ nmax ≤ 2700 ⌝ ∗ ⌜ tableSize nmax ≤ length (now b) ⌝ }
+    ensures { λ r. ⌜ Filled start (rowsFrom bCell first) (tableSize nmax - start) (now (b .entry)) (now (b .exit)) ⌝ }
 {
     if nmax < 128 {
         let mut ratio = [0.0; 256];
-        b_rows(nmax, &mut ratio, b);
+        b_rows(first, start, nmax, &mut ratio, b);
     } else {
         let mut ratio = [0.0; 5401];
-        b_rows(nmax, &mut ratio, b);
+        b_rows(first, start, nmax, &mut ratio, b);
     }
 }
 
-// The tables a and b of the recursion, one after the other at the front of the working list; `guesses` is overwritten.
+// The tables a and b of the recursion, one after the other at the front of the working list; `guesses` may be overwritten.
 pub fn tables_by(nmax: usize, total: usize, guesses: &mut [f64], work: &mut [f64])
     requires { ⌜ nmax ≤ 2700 ⌝ ∗ ⌜ total ≡ tableSize nmax ⌝ ∗ ⌜ nmax + nmax < length (now guesses) ⌝ ∗ ⌜ total + total ≤ length (now work) ⌝ }
     ensures { λ _. ⌜ now (work .exit) ≡ withTables nmax (now (work .entry)) ⌝ }
 {
-    a_rows(nmax, guesses, work);
-    b_rows(nmax, guesses, &mut work[total..]);
+    a_rows(0, 0, nmax, guesses, work);
+    b_rows(0, 0, nmax, guesses, &mut work[total..]);
 }
 
 // The same with a table of guesses of its own, short for a low degree.

@@ -1,33 +1,19 @@
 -- The working list of a call: the three tables and the sectoral numbers at its front, behind them the powers of u of the point at hand.
 -- Assumes nothing.
-use mathlib.Core.Path.{_≡_, refl, sym, ap, _∙_}
+use mathlib.Core.Path.{_≡_, refl, ap, _∙_}
 use mathlib.Core.List.{List}
-use Prim.Native.Nat.{ℕ, zero, suc, _+_, _≤_, _<_}
-use native.Mathlib.Nat.{zero-add}
-use native.Mathlib.Numerals.{add-one}
+use Prim.Native.Nat.{ℕ, _+_, _≤_, _<_}
 use native.Mathlib.Omega.{arith}
 use lib.ListN.{length, getD, take, drop}
-use lib.Seq.{set-getD, getD-take, getD-drop}
+use lib.Seq.{getD-take, getD-drop}
 use lib.Ieee.{Float, nan}
-use Rattle.storage.specs.Fill.{fill, drop-fill}
-use Rattle.storage.specs.Filled.{Filled, filled-none, filled-more, filled-in, filled-before}
+use Rattle.storage.specs.Fill.{drop-fill}
+use Rattle.storage.specs.Filled.{Filled, filled-standing, filled-in, filled-before}
 use Rattle.storage.specs.Triangle.{tableSize, row-within}
 use Rattle.recursion.specs.Recursion.{pmm, rescale}
 use Rattle.recursion.specs.Tables.{second-table}
 use Rattle.local.specs.Second.{secondSize}
 use Rattle.point_lists.specs.Tables.{TablesFirst, first-kept}
-
--- numbers that stand at the front of a list fill it
-standing : {F : ℕ → Float} (l : List Float) (k : ℕ) → ((j : ℕ) → j < k → getD l j nan ≡ F j) → Filled 0 F k l l
-standing l zero e = filled-none
-standing {F} l (suc k) e =
-    let more = filled-more {v = getD l k nan} (standing l k (λ j h. e j (omega arith))) (sym (zero-add k)) (e k (omega arith)) in
-    let n = add-one k in
-    record { is = sym (set-getD l k nan) ∙ more .is ∙ ap (λ (i : ℕ). fill 0 F i l) n; long = refl }
-
--- what is filled from an index on, with the index said otherwise
-pub filled-at : {at at′ k : ℕ} {F : ℕ → Float} {d l : List Float} → Filled at F k d l → at ≡ at′ → Filled at′ F k d l
-filled-at {k = k} {F} {d} r e = record { is = r .is ∙ ap (λ (i : ℕ). fill i F k d) e; long = r .long }
 
 -- where the sectoral numbers start, and the powers of u
 abbrev pub sectoralsAt : ℕ → ℕ
@@ -102,13 +88,13 @@ module _ (N : ℕ) (l : List Float) (total count i j h : ℕ) (et : total ≡ ta
       ∙ ap (λ (x : ℕ). getD l x nan) place
 
   pub sectorals-standing : Prepared N l → Filled 0 pmm (N + 1) (sectoralsPart total i j h l) (sectoralsPart total i j h l)
-  sectorals-standing p = standing (sectoralsPart total i j h l) (N + 1) (λ m b. part-at m (omega arith) ∙ p .sectorals m (omega arith))
+  sectorals-standing p = filled-standing nan (sectoralsPart total i j h l) (N + 1) (λ m b. part-at m (omega arith) ∙ p .sectorals m (omega arith))
 
   pub powers-standing : (g : ℕ) (u : Float) {l₀ : List Float} → count ≤ g → Filled (powersAt N) (rescale u) (N + 1) l₀ l → powersAt N + (N + 1) ≤ length l₀
       → Filled 0 (rescale u) (N + 1) (take g (drop count (sectoralsPart total i j h l))) (take g (drop count (sectoralsPart total i j h l)))
   powers-standing g u hg r room =
       let part = sectoralsPart total i j h l in
-      standing (take g (drop count part)) (N + 1)
+      filled-standing nan (take g (drop count part)) (N + 1)
       (λ m b.
       let place : sectoralsAt N + (count + m) ≡ powersAt N + m = omega arith in
       getD-take g (drop count part) m nan (omega arith)

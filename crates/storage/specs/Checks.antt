@@ -135,18 +135,24 @@ module _ (nmax clen slen : ℕ) where
       let t = nltb→le 2700 nmax p in
       record { top = t; c = same clen (tableSize nmax) q; s = same slen (tableSize nmax) r; small = table-size-most nmax t }
 
+space-passed : (size a b : ℕ) → Done ≡ spaceCheck size a b → (size ≤ a) × (size ≤ b)
+unfolding spaceCheck
+space-passed size a b h =
+    let (p, g) = past (ltb a size) Space _ h in
+    let (q, l) = past (ltb b size) Space _ g in
+    (nltb→le a size p, nltb→le b size q)
+
 pub record Outputs (nmax clen slen top a b : ℕ) : Type 0 where
   pub tables : Tables nmax clen slen
   pub first : sizeOf top ≤ a
   pub second : sizeOf top ≤ b
 
 pub outputs-passed : (nmax clen slen top a b : ℕ) → Done ≡ outputsCheck nmax clen slen top a b → Outputs nmax clen slen top a b
-unfolding outputsCheck spaceCheck
+unfolding outputsCheck
 outputs-passed nmax clen slen top a b h =
     let (t, g) = both (tablesCheck nmax clen slen) _ h in
-    let (p, k) = past (ltb a (sizeOf top)) Space _ g in
-    let (q, l) = past (ltb b (sizeOf top)) Space _ k in
-    record { tables = tables-passed nmax clen slen t; first = nltb→le a (sizeOf top) p; second = nltb→le b (sizeOf top) q }
+    let (p, q) = space-passed (sizeOf top) a b g in
+    record { tables = tables-passed nmax clen slen t; first = p; second = q }
 
 module _ (size a b : ℕ) where
   pub space-first : a < size → Refused Space ≡ spaceCheck size a b
@@ -169,6 +175,18 @@ module _ (nmax a b : ℕ) where
   pub room-space : nmax ≤ 2700 → spaceCheck (tableSize nmax) a b ≡ roomCheck nmax a b
   unfolding roomCheck refuse
   room-space h = simp (le-ltb 2700 nmax h)
+
+pub record Room (nmax a b : ℕ) : Type 0 where
+  pub top : nmax ≤ 2700
+  pub first : tableSize nmax ≤ a
+  pub second : tableSize nmax ≤ b
+
+pub room-passed : (nmax a b : ℕ) → Done ≡ roomCheck nmax a b → Room nmax a b
+unfolding roomCheck
+room-passed nmax a b h =
+    let (t, g) = past (ltb 2700 nmax) Size _ h in
+    let (p, q) = space-passed (tableSize nmax) a b g in
+    record { top = nltb→le 2700 nmax t; first = p; second = q }
 
 module _ (nmax : ℕ) (list : List Float) (n m : ℕ) where
   pub entry-size : 2700 < nmax → NoValue Size ≡ entryAnswer nmax list n m

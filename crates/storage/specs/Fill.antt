@@ -97,6 +97,17 @@ module _ {A : Type 0} where
   take-fill (suc at) F k (suc j) (x ∷ d) h = ap (λ (t : List A). x ∷ t) (take-fill at F k j d (le-of-suc-le-suc h))
   take-fill zero F k (suc j) (x ∷ d) h = absurd (not-suc-le-zero h)
 
+  -- k elements are the front of more, whatever stood in the two lists
+  pub fill-front : (F : ℕ → A) (k j : ℕ) (d d′ : List A) → k ≤ j → k ≤ length d → k ≤ length d′ → take k (fill 0 F j d′) ≡ take k (fill 0 F k d)
+  unfolding fill
+  fill-front F zero j d d′ h l l′ = refl
+  fill-front F (suc k) j [] d′ h l l′ = absurd (not-suc-le-zero l)
+  fill-front F (suc k) j (x ∷ d) [] h l l′ = absurd (not-suc-le-zero l′)
+  fill-front F (suc k) zero (x ∷ d) (y ∷ d′) h l l′ = absurd (not-suc-le-zero h)
+  fill-front F (suc k) (suc j) (x ∷ d) (y ∷ d′) h l l′ =
+      ap (λ (t : List A). F zero ∷ t)
+      (fill-front (λ i. F (suc i)) k j d d′ (le-of-suc-le-suc h) (le-of-suc-le-suc l) (le-of-suc-le-suc l′))
+
   -- elements that are written over
   pub fill-again : (at : ℕ) (F G : ℕ → A) (j k : ℕ) (d : List A) → j ≤ k → fill at G k (fill at F j d) ≡ fill at G k d
   unfolding fill

@@ -1,11 +1,13 @@
 -- `fill` as a loop's invariant has it: a record, so that a law finds its arguments by itself, with the length beside the equation, where
 -- `omega` finds it. Assumes nothing.
 use mathlib.Core.Path.{_≡_, refl, sym, ap, subst, _∙_}
-use Prim.Native.Nat.{ℕ, _+_, _-_, _≤_, _<_}
-use native.Mathlib.Nat.{le-refl, add-zero, add-sub-of-le}
+use Prim.Native.Nat.{ℕ, zero, suc, _+_, _-_, _≤_, _<_}
+use native.Mathlib.Nat.{le-refl, add-zero, zero-add, add-sub-of-le}
+use native.Mathlib.Numerals.{add-one}
 use native.Mathlib.Omega.{arith}
 use mathlib.Core.List.{List, _++_}
 use lib.ListN.{length, getD, set, take, drop, length-set}
+use lib.Seq.{set-getD}
 use Rattle.storage.specs.Fill.{fill, length-fill, fill-none, fill-more, fill-in, fill-before, fill-after, fill-join, fill-again, fill-same, fill-part}
 use Rattle.storage.specs.Fill.{fill-swap}
 
@@ -32,6 +34,10 @@ module _ {A : Type 0} {at k : ℕ} {F : ℕ → A} {d l : List A} where
   -- as many, said otherwise
   pub filled-to : {j : ℕ} → Filled at F k d l → k ≡ j → Filled at F j d l
   filled-to {j} r e = record { is = r .is ∙ ap (λ (i : ℕ). fill at F i d) e; long = r .long }
+
+  -- from the same index, said otherwise
+  pub filled-at : {at′ : ℕ} → Filled at F k d l → at ≡ at′ → Filled at′ F k d l
+  filled-at {at′} r e = record { is = r .is ∙ ap (λ (i : ℕ). fill i F k d) e; long = r .long }
 
   -- what is read in the part that is filled, before it and after it
   pub filled-in : {i j : ℕ} (z : A) → Filled at F k d l → j < k → i ≡ at + j → i < length d → getD l i z ≡ F j
@@ -96,6 +102,13 @@ module _ {A : Type 0} {at k : ℕ} {F : ℕ → A} {d l : List A} where
 -- with one element stored
 pub filled-one : {A : Type 0} {at : ℕ} {F : ℕ → A} {v : A} (d : List A) → v ≡ F 0 → Filled at F 1 d (set d at v)
 filled-one {A} {at} d h = filled-more filled-none (sym (add-zero at)) h
+
+-- elements that stand at the front of a list fill it
+pub filled-standing : {A : Type 0} {F : ℕ → A} (z : A) (l : List A) (k : ℕ) → ((j : ℕ) → j < k → getD l j z ≡ F j) → Filled 0 F k l l
+filled-standing z l zero e = filled-none
+filled-standing {A} {F} z l (suc k) e =
+    let more = filled-more {v = getD l k z} (filled-standing z l k (λ j h. e j (omega arith))) (sym (zero-add k)) (e k (omega arith)) in
+    record { is = sym (set-getD l k z) ∙ more .is ∙ ap (λ (i : ℕ). fill 0 F i l) (add-one k); long = refl }
 
 -- the n elements from s on, lent, filled from their front and given back
 pub filled-part : {A : Type 0} {k : ℕ} {F : ℕ → A} {y : List A} (s n : ℕ) (w : List A) → Filled 0 F k (take n (drop s w)) y → k ≤ n

@@ -10,7 +10,7 @@ use native.Mathlib.Omega.{arith}
 use lib.Dec.{eqb}
 use lib.ListN.{length, getD}
 use borrow.Author.Tests.{eq-eqb, ne-eqb}
-use Rattle.storage.specs.Filled.{Filled, filled-to, filled-join, filled-in}
+use Rattle.storage.specs.Filled.{Filled, filled-to, filled-join, filled-in, filled-same}
 
 -- where row n starts: how many entries the rows below n have
 unfoldable pub rowStart : ℕ → ℕ
@@ -102,6 +102,10 @@ degreeOrder (suc k) = next (degreeOrder k)
 unfoldable pub along : {A : Type 0} → (ℕ → ℕ → A) → ℕ → A
 along f k = f (degreeOrder k .0) (degreeOrder k .1)
 
+-- its rows from row n on
+unfoldable pub rowsFrom : {A : Type 0} → (ℕ → ℕ → A) → ℕ → ℕ → A
+rowsFrom f n k = along f (rowStart n + k)
+
 next-in : (n m : ℕ) → m < n → next (n, m) ≡ (n, m + 1)
 next-in n m h = simp (ne-eqb m n (λ e. omega arith))
 
@@ -171,3 +175,19 @@ module _ {A : Type 0} (f : ℕ → ℕ → A) (n : ℕ) {at k : ℕ} {d l : List
   -- what stands at (n, m) of a table whose first k entries are written
   pub rows-at : {i : ℕ} (m : ℕ) (z : A) → Filled at (along f) k d l → m ≤ n → i ≡ at + idx n m → idx n m < k → i < length d → getD l i z ≡ f n m
   rows-at {i} m z r h p b c = filled-in z r b p c ∙ along-idx f n m h
+
+-- row n written after the rows from row s on, which start at index at
+pub rows-from-more : {A : Type 0} (f : ℕ → ℕ → A) (n s : ℕ) {at at′ j : ℕ} {d l l′ : List A} → at ≡ rowStart s → s ≤ n
+    → Filled at (rowsFrom f s) (rowStart n - at) d l → Filled at′ (f n) j l l′ → at′ ≡ rowStart n → j ≡ n + 1
+    → Filled at (rowsFrom f s) (rowStart (n + 1) - at) d l′
+unfolding rowsFrom
+rows-from-more f n s {at} {at′} {j} e h r g p q =
+    let m = row-start-monotone s n h in
+    let same : (i : ℕ) → i < j → along f (rowStart s + (rowStart n - at + i)) ≡ f n i =
+    λ i b. ap (along f) (omega arith) ∙ along-idx f n i (omega arith) in
+    filled-to (filled-join r g (omega arith) same) (omega (arith, row-start-more n))
+
+-- the rows from row 0 on are the table
+pub rows-from-zero : {A : Type 0} (f : ℕ → ℕ → A) (N : ℕ) {d l : List A} → Filled 0 (rowsFrom f 0) (tableSize N - 0) d l → Filled 0 (along f) (tableSize N) d l
+unfolding rowsFrom
+rows-from-zero f N r = filled-same (along f) (filled-to r (omega arith)) (λ i b. ap (along f) (omega (arith, row-start-zero)))

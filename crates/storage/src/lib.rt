@@ -9,7 +9,7 @@ ghost use Rattle.storage.specs.Answers.{sizeOf, placeOf};
 ghost use Rattle.storage.specs.Elements.{zeroAt};
 ghost use Rattle.storage.specs.Filled.{Filled};
 ghost use Rattle.storage.specs.Lanes.{lane};
-ghost use Rattle.storage.specs.Checks.{indexNumber, tablesCheck, outputsCheck, entryAnswer};
+ghost use Rattle.storage.specs.Checks.{indexNumber, spaceCheck, roomCheck, tablesCheck, outputsCheck, entryAnswer};
 
 // The highest degree of a table.
 pub const MAX_DEGREE: usize = 2700;
@@ -112,6 +112,29 @@ pub fn clear(size: usize, list: &mut [f64])
 }
 
 // ---- the checks, over the lengths of the lists
+// SPACE: two lists, one of them shorter than size.
+fn space_check(size: usize, a: usize, b: usize) -> Answer
+    ensures { λ r. ⌜ r ≡ spaceCheck size a b ⌝ }
+{
+    if a < size {
+        return Answer::Refused(Refusal::Space);
+    }
+    if b < size {
+        return Answer::Refused(Refusal::Space);
+    }
+    Answer::Done
+}
+
+// SIZE, and SPACE for two tables.
+pub fn room_check(nmax: usize, a: usize, b: usize) -> Answer
+    ensures { λ r. ⌜ r ≡ roomCheck nmax a b ⌝ }
+{
+    if nmax > MAX_DEGREE {
+        return Answer::Refused(Refusal::Size);
+    }
+    space_check(table_size(nmax), a, b)
+}
+
 // SIZE, and LENGTH of the two tables.
 pub fn tables_check(nmax: usize, clen: usize, slen: usize) -> Answer
     ensures { λ r. ⌜ r ≡ tablesCheck nmax clen slen ⌝ }
@@ -142,16 +165,7 @@ pub fn outputs_check(
 {
     match tables_check(nmax, clen, slen) {
         Answer::Refused(e) => Answer::Refused(e),
-        Answer::Done => {
-            let size = table_size(top);
-            if a < size {
-                return Answer::Refused(Refusal::Space);
-            }
-            if b < size {
-                return Answer::Refused(Refusal::Space);
-            }
-            Answer::Done
-        }
+        Answer::Done => space_check(table_size(top), a, b),
     }
 }
 

@@ -1,38 +1,25 @@
--- `new` meets its contract: each way through its checks, and both tables past them. Assumes nothing.
-use Rattle.storage.specs.Answers.{size-is}
-use Rattle.storage.specs.Checks.{room-size, room-space, space-first, space-second, space-done}
+-- `new` meets its contract: it is refused by its checks, or both tables are written. Assumes nothing.
+use Rattle.storage.specs.Checks.{room-passed}
+use Rattle.storage.specs.Triangle.{row-start-zero, rows-from-zero}
+use Rattle.recursion.specs.Recursion.{aCell, bCell}
 use native.Mathlib.Omega.{arith}
-use mathlib.Core.Path.{refl, _∙_}
+use mathlib.Core.Path.{refl, sym, _∙_}
 use borrow.Author.Needs.{needs}
 use Rattle.legendre.proofs.new.Statement.{statement}
 use Rattle.legendre.proofs.new.Tie as tie
 
-returns : tie.Need-returns
-returns c = (room-size _ _ _ (omega arith), (refl, refl))
-
-returns-2 : tie.Need-returns-2
-returns-2 c =
-    let a = c .before .before .before .before .before .args in
-    let z = c .before .table-size .ensures ∙ size-is (a .nmax) (omega arith) in
-    (space-first _ _ _ (omega arith) ∙ room-space _ _ _ (omega arith), (refl, refl))
-
-returns-3 : tie.Need-returns-3
-returns-3 c =
-    let a = c .before .before .before .before .before .before .args in
-    let z = c .before .before .table-size .ensures ∙ size-is (a .nmax) (omega arith) in
-    (space-second _ _ _ (omega arith) (omega arith) ∙ room-space _ _ _ (omega arith), (refl, refl))
-
 a-table-requires : tie.Need-a-table-requires
 a-table-requires c κs =
-    let a = c .before .before .before .before .before .before .before .args in
-    let z = c .before .before .before .table-size .ensures ∙ size-is (a .nmax) (omega arith) in
-    (omega arith, omega arith)
+    let room = room-passed _ _ _ (sym (c .before .enum-told .given .1) ∙ c .before .before .before .room-check .ensures) in
+    omega (arith, row-start-zero)
 
 b-table-requires : tie.Need-b-table-requires
 b-table-requires c κs =
-    let a = c .before .before .before .before .before .before .before .before .before .before .before .args in
-    let z = c .before .before .before .before .before .before .before .table-size .ensures ∙ size-is (a .nmax) (omega arith) in
-    (omega arith, omega arith)
+    let room = room-passed _ _ _ (sym (c .before .before .before .before .before .enum-told .given .1) ∙ c .before .before .before .before .before .before .before .room-check .ensures) in
+    omega (arith, row-start-zero)
+
+returns : tie.Need-returns
+returns c = (sym (c .before .e .given .1) ∙ c .before .before .before .room-check .ensures, (refl, refl))
 
 same-length : tie.Need-same-length
 same-length c = c .before .before .before .before .before .before .a-table .ensures .long
@@ -40,15 +27,13 @@ same-length c = c .before .before .before .before .before .before .a-table .ensu
 same-length-2 : tie.Need-same-length-2
 same-length-2 c = c .before .before .b-table .ensures .long
 
-returns-4 : tie.Need-returns-4
-returns-4 c =
-    let a = c .before .before .before .before .before .before .before .before .before .before .before .before .before .before .args in
-    let z = c .before .before .before .before .before .before .before .before .before .before .table-size .ensures ∙ size-is (a .nmax) (omega arith) in (
-      space-done _ _ _ (omega arith) (omega arith) ∙ room-space _ _ _ (omega arith),
-      (c .before .before .before .before .before .before .a-table .ensures .is, c .before .before .b-table .ensures .is),
-    )
+returns-2 : tie.Need-returns-2
+returns-2 c = (
+  sym (c .before .before .before .before .before .before .before .before .enum-told .given .1) ∙ c .before .before .before .before .before .before .before .before .before .before .room-check .ensures,
+  (rows-from-zero aCell _ (c .before .before .before .before .before .before .a-table .ensures) .is, rows-from-zero bCell _ (c .before .before .b-table .ensures) .is),
+)
 
 pub new-spec : {M : Type 1} → statement M
 new-spec =
     tie.close
-    (tie.spec returns (λ c κs. search needs) returns-2 returns-3 a-table-requires b-table-requires same-length same-length-2 returns-4)
+    (tie.spec (λ c κs. search needs) (λ c. search needs) (λ c. search needs) a-table-requires b-table-requires returns same-length same-length-2 returns-2)

@@ -1,22 +1,22 @@
 -- `recursion::b_rows` meets its contract: the rows below n are written. Assumes nothing.
 use Rattle.recursion.specs.Recursion.{bCell}
-use Rattle.storage.specs.Triangle.{rowStart, along, row-start-zero, row-within, rows-more}
+use Rattle.storage.specs.Triangle.{rowStart, rowsFrom, row-within, rows-from-more}
 use Rattle.storage.specs.Filled.{Filled, filled-none, filled-to}
 use borrow.Author.Needs.{needs}
 use native.Mathlib.Omega.{arith}
-use mathlib.Core.Path.{_≡_, refl, sym, ap}
-use Prim.Native.Nat.{_+_, _-_, _≤_}
+use mathlib.Core.Path.{_≡_, refl, ap}
+use Prim.Native.Nat.{ℕ, _+_, _-_, _≤_}
 use Rattle.recursion.proofs.b_rows.Statement.{statement}
 use Rattle.recursion.proofs.b_rows.Tie as tie
 
 abbrev Inv-loop : tie.InvT-loop
-Inv-loop nmax ratio b₀ at₀ n₀ b at n = (at ≡ rowStart n) × (n ≤ nmax + 1) × Filled 0 (along bCell) (rowStart n) b₀ b
+Inv-loop first start nmax ratio b₀ at₀ n₀ b at n = (at ≡ rowStart n) × (first ≤ n) × (n ≤ nmax + 1) × Filled start (rowsFrom bCell first) (rowStart n - start) b₀ b
 
 abbrev μ-loop : tie.MeasureT-loop
-μ-loop nmax ratio b₀ at₀ n₀ b at n = nmax + 1 - n
+μ-loop first start nmax ratio b₀ at₀ n₀ b at n = nmax + 1 - n
 
 loop-holds : tie.Need-loop-holds Inv-loop μ-loop
-loop-holds c = let z = sym row-start-zero in (z, omega arith, filled-to filled-none z)
+loop-holds c = (omega arith, omega arith, omega arith, filled-to filled-none (omega arith))
 
 b-row-requires : tie.Need-b-row-requires Inv-loop μ-loop
 b-row-requires c κs =
@@ -43,24 +43,28 @@ loop-again : tie.Need-loop-again Inv-loop μ-loop
 loop-again c =
     let a = c .before .before .before .before .before .before .before .before .before .before .before .before .before .args in
     let l = c .before .before .before .before .before .before .loop in
-    let k = row-within (l .n) (a .nmax) (omega arith) (omega arith) in
-    (omega arith, omega arith, rows-more bCell (l .n) (l .inv .2) (c .before .before .b-row .ensures) refl (omega arith) refl)
+    let k = row-within (l .n) (a .nmax) (omega arith) (omega arith) in (
+      omega arith,
+      omega arith,
+      omega arith,
+      rows-from-more bCell (l .n) (a .first) (omega arith) (omega arith) (l .inv .3) (c .before .before .b-row .ensures) (omega arith) refl,
+    )
 
 same-length : tie.Need-same-length Inv-loop μ-loop
-same-length c = c .before .before .before .before .ratio-roots .kept .1 .0
+same-length c = c .before .before .before .before .ratio-roots .kept .1 .1 .0
 
 same-length-2 : tie.Need-same-length-2 Inv-loop μ-loop
-same-length-2 c = c .before .loop .inv .2 .long
+same-length-2 c = c .before .loop .inv .3 .long
 
 returns : tie.Need-returns Inv-loop μ-loop
 returns c =
     let a = c .before .before .before .before .before .before .before .before .args in
     let l = c .before .loop in
     let e : l .n ≡ a .nmax + 1 = omega arith in
-    filled-to (l .inv .2) (ap rowStart e)
+    filled-to (l .inv .3) (ap (λ (k : ℕ). rowStart k - a .start) e)
 
 pub b-rows-spec : {M : Type 1} → statement M
 b-rows-spec =
     tie.close
-    (tie.spec Inv-loop μ-loop (λ c. omega arith) (λ c κs. search needs) loop-holds b-row-requires add-at add-at-2 (λ c. omega arith) (λ c. omega arith)
+    (tie.spec Inv-loop μ-loop (λ c κs. search needs) loop-holds b-row-requires add-at add-at-2 (λ c. omega arith) (λ c. omega arith)
     loop-again same-length same-length-2 returns)

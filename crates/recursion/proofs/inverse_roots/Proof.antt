@@ -10,10 +10,10 @@ use Rattle.recursion.proofs.inverse_roots.Statement.{statement}
 use Rattle.recursion.proofs.inverse_roots.Tie as tie
 
 abbrev Inv-loop : tie.InvT-loop
-Inv-loop last out₀ k₀ out k = (1 ≤ k) × (length out ≡ length out₀)
+Inv-loop first nmax out₀ last k₀ out k = (1 ≤ k) × (length out ≡ length out₀)
 
 abbrev μ-loop : tie.MeasureT-loop
-μ-loop last out₀ k₀ out k = last + 1 - k
+μ-loop first nmax out₀ last k₀ out k = last + 1 - k
 
 loop-holds : tie.Need-loop-holds Inv-loop μ-loop
 loop-holds c = (omega arith, refl)
@@ -30,8 +30,11 @@ same-length c = c .before .loop .inv .1
 returns : tie.Need-returns Inv-loop μ-loop
 returns c = tt
 
+returns-2 : tie.Need-returns-2 Inv-loop μ-loop
+returns-2 c = tt
+
 pub inverse-roots-spec : {M : Type 1} → statement M
 inverse-roots-spec =
     tie.close
-    (tie.spec Inv-loop μ-loop loop-holds int-to-float-root (λ c κs. search needs) (λ c. omega arith) (λ c. omega arith) (λ c. omega arith)
-    (λ c. omega arith) loop-again same-length returns)
+    (tie.spec Inv-loop μ-loop (λ c. omega arith) returns (λ c. omega arith) loop-holds int-to-float-root (λ c κs. search needs) (λ c. omega arith) (λ c. omega arith) (λ c. omega arith)
+    (λ c. omega arith) loop-again same-length returns-2)

@@ -1,6 +1,6 @@
 -- `points::powers` meets its contract: the powers are lent their part. Assumes nothing.
-use Rattle.second_partials.specs.Working.{powers-within, filled-at}
-use Rattle.storage.specs.Filled.{filled-part}
+use Rattle.second_partials.specs.Working.{powers-within}
+use Rattle.storage.specs.Filled.{filled-part, filled-at}
 use native.Mathlib.Omega.{arith}
 use Prim.Native.Nat.{_+_, _-_}
 use lib.ListN.{length}

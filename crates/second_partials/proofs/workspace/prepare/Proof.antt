@@ -1,8 +1,8 @@
 -- `workspace::prepare` meets its contract: the sectoral numbers are lent their part behind the tables. Assumes nothing.
-use Rattle.second_partials.specs.Working.{sectoralsAt, powers-within, filled-at, prepared, sectorals-rest}
+use Rattle.second_partials.specs.Working.{sectoralsAt, powers-within, prepared, sectorals-rest}
 use Rattle.point_lists.specs.Tables.{weights-long, weights-rest, weights-first}
 use Rattle.local.specs.Second.{secondSize}
-use Rattle.storage.specs.Filled.{filled-part}
+use Rattle.storage.specs.Filled.{filled-part, filled-at}
 use native.Mathlib.Omega.{arith}
 use mathlib.Core.Path.{_∙_}
 use Prim.Native.Nat.{_+_, _-_}
