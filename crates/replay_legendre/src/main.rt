@@ -10,6 +10,9 @@ ghost use mathlib.Core.Path.{_≡_};
 ghost use Prim.Native.Nat.{_+_, _≤_};
 ghost use lib.ListN.{length};
 
+// What stands in every place of the large lists that grow.
+const MARK: f64 = 1234.5;
+
 fn show_new() {
     let mut a = [0.0; 15];
     let mut b = [0.0; 15];
@@ -22,6 +25,34 @@ fn show_new() {
             io::write_all(1, b"new refused\n");
         }
     }
+}
+
+// `grow` on lists of 18 numbers: a row of the answers has a and b before the call, then after it.
+fn show_grow(from: usize, nmax: usize, words: &[u64; 72]) {
+    let mut a = [0.0; 18];
+    let mut b = [0.0; 18];
+    replay::load(words, 0, &mut a);
+    replay::load(words, 18, &mut b);
+    match legendre::grow(from, nmax, &mut a, &mut b) {
+        Answer::Done => {
+            show(b"grow a ", &a, words, 36);
+            show(b"grow b ", &b, words, 54);
+        }
+        Answer::Refused(_) => {
+            io::write_all(1, b"grow refused\n");
+        }
+    }
+}
+
+// Over the rows of a table, over marks, and where there is no row to write.
+fn show_grown() {
+    show_grow(0, 4, &answers::GROW_ZERO);
+    show_grow(1, 3, &answers::GROW_ONE);
+    show_grow(2, 4, &answers::GROW_TWO);
+    show_grow(3, 4, &answers::GROW_THREE);
+    show_grow(2, 4, &answers::GROW_MARKS);
+    show_grow(4, 4, &answers::GROW_NONE);
+    show_grow(18446744073709551615, 4, &answers::GROW_NONE);
 }
 
 // The entry of degree 3 and order 2 by the call for it.
@@ -83,18 +114,24 @@ fn show_at(a: &[u64; 15], b: &[u64; 15], words: &[u64; 32]) {
     }
 }
 
-// A table up to degree 130 at the first latitude: P of degree 130, 131 numbers, then the derivatives.
+// The first latitude.
+fn middle() -> Latitude {
+    Latitude {
+        t: number::number_of_bits(answers::MIDDLE[0]),
+        u: number::number_of_bits(answers::MIDDLE[1]),
+    }
+}
+
+// A table up to degree 130: its front, which is a table up to degree 4; at the first latitude P of degree 130, 131 numbers, then the derivatives.
 fn show_large() {
     let mut a = [0.0; 8646];
     let mut b = [0.0; 8646];
     match legendre::new(130, &mut a, &mut b) {
         Answer::Done => {
-            let latitude = Latitude {
-                t: number::number_of_bits(answers::MIDDLE[0]),
-                u: number::number_of_bits(answers::MIDDLE[1]),
-            };
-            show_large_compute(latitude, &a, &b);
-            show_large_derivative(latitude, &a, &b);
+            show_front(b"new 130, front of a ", &a, &answers::A);
+            show_front(b"new 130, front of b ", &b, &answers::B);
+            show_large_compute(middle(), &a, &b);
+            show_large_derivative(middle(), &a, &b);
         }
         Answer::Refused(_) => {
             io::write_all(1, b"new 130 refused\n");
@@ -106,7 +143,7 @@ fn show_large() {
 fn show_large_compute(latitude: Latitude, a: &[f64; 8646], b: &[f64; 8646]) {
     let mut p = [0.0; 8646];
     match legendre::compute(130, latitude, a, b, &mut p) {
-        Answer::Done => show_row(b"compute 130 ", &p, 0),
+        Answer::Done => show_row(b"compute 130 ", &p, &answers::LARGE, 0),
         Answer::Refused(_) => {
             io::write_all(1, b"compute 130 refused\n");
         }
@@ -119,8 +156,13 @@ fn show_large_derivative(latitude: Latitude, a: &[f64; 8646], b: &[f64; 8646]) {
     let mut dp = [0.0; 8646];
     match legendre::compute_with_derivative(130, latitude, a, b, &mut p, &mut dp) {
         Answer::Done => {
-            show_row(b"compute_with_derivative 130, p ", &p, 0);
-            show_row(b"compute_with_derivative 130, dp ", &dp, 131);
+            show_row(b"compute_with_derivative 130, p ", &p, &answers::LARGE, 0);
+            show_row(
+                b"compute_with_derivative 130, dp ",
+                &dp,
+                &answers::LARGE,
+                131,
+            );
         }
         Answer::Refused(_) => {
             io::write_all(1, b"compute_with_derivative 130 refused\n");
@@ -129,11 +171,45 @@ fn show_large_derivative(latitude: Latitude, a: &[f64; 8646], b: &[f64; 8646]) {
 }
 
 // The last row of a table up to degree 130.
-fn show_row(name: &[u8], table: &[f64], at: usize)
+fn show_row(name: &[u8], table: &[f64], words: &[u64; 262], at: usize)
     requires { ⌜ length (now table) ≡ 8646 ⌝ ∗ ⌜ at ≤ 131 ⌝ ∗ ⌜ length (now name) ≤ 80 ⌝ }
 {
     let from = 8515;
-    show(name, &table[from..], &answers::LARGE, at);
+    show(name, &table[from..], words, at);
+}
+
+// The front of a table, as many numbers as are due.
+fn show_front(name: &[u8], table: &[f64], words: &[u64])
+    requires { ⌜ length (now words) ≤ length (now table) ⌝ ∗ ⌜ length (now name) ≤ 80 ⌝ }
+{
+    let end = words.len();
+    show(name, &table[..end], words, 0);
+}
+
+// A table up to degree 120, by a short list of guesses, that grows to degree 130 by a long one.
+fn show_large_grow() {
+    let mut a = [MARK; 8646];
+    let mut b = [MARK; 8646];
+    match legendre::new(120, &mut a, &mut b) {
+        Answer::Done => show_large_grown(&mut a, &mut b),
+        Answer::Refused(_) => {
+            io::write_all(1, b"new 120 refused\n");
+        }
+    }
+}
+
+// Its last row, and P by all of its rows.
+fn show_large_grown(a: &mut [f64; 8646], b: &mut [f64; 8646]) {
+    match legendre::grow(120, 130, a, b) {
+        Answer::Done => {
+            show_row(b"grow 130, a ", a, &answers::LARGE_TABLES, 0);
+            show_row(b"grow 130, b ", b, &answers::LARGE_TABLES, 131);
+            show_large_compute(middle(), a, b);
+        }
+        Answer::Refused(_) => {
+            io::write_all(1, b"grow 130 refused\n");
+        }
+    }
 }
 
 // A rule: a row of the answers has the guesses, the nodes and the weights.
@@ -197,6 +273,7 @@ fn show_strange() {
 fn main() {
     replay_print::control();
     show_new();
+    show_grown();
     show_at(&answers::A, &answers::B, &answers::MIDDLE);
     show_at(&answers::A, &answers::B, &answers::POLE);
     show_at(&answers::A, &answers::B, &answers::EQUATOR);
@@ -208,4 +285,5 @@ fn main() {
     show_strange();
     show_far();
     show_large();
+    show_large_grow();
 }

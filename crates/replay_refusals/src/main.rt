@@ -26,10 +26,11 @@ fn answer(which: usize, case: &[u64], list: &[f64], x: &mut [f64], y: &mut [f64]
         7 => models::s(case, list, x),
         8 => models::set(case, x, y),
         9 => tables::new(case, x, y),
-        10 => tables::compute(case, list, x),
-        11 => tables::compute_with_derivative(case, list, x, y),
-        12 => tables::p(case, list, x),
-        13 => tables::dp(case, list, x),
+        10 => tables::grow(case, x, y),
+        11 => tables::compute(case, list, x),
+        12 => tables::compute_with_derivative(case, list, x, y),
+        13 => tables::p(case, list, x),
+        14 => tables::dp(case, list, x),
         _ => tables::gauss_legendre(case, list, x, y),
     }
 }
@@ -103,22 +104,28 @@ fn print_tables() {
         &cases::LEGENDRE_NEW_DUE,
     );
     print(
-        b"legendre compute ",
+        b"legendre grow ",
         10,
+        &cases::LEGENDRE_GROW,
+        &cases::LEGENDRE_GROW_DUE,
+    );
+    print(
+        b"legendre compute ",
+        11,
         &cases::LEGENDRE_COMPUTE,
         &cases::LEGENDRE_COMPUTE_DUE,
     );
     print(
         b"legendre compute_with_derivative ",
-        11,
+        12,
         &cases::COMPUTE_WITH_DERIVATIVE,
         &cases::COMPUTE_WITH_DERIVATIVE_DUE,
     );
-    print(b"legendre p ", 12, &cases::ENTRY, &cases::ENTRY_DUE);
-    print(b"legendre dp ", 13, &cases::ENTRY, &cases::ENTRY_DUE);
+    print(b"legendre p ", 13, &cases::ENTRY, &cases::ENTRY_DUE);
+    print(b"legendre dp ", 14, &cases::ENTRY, &cases::ENTRY_DUE);
     print(
         b"gauss_legendre ",
-        14,
+        15,
         &cases::GAUSS_LEGENDRE,
         &cases::GAUSS_LEGENDRE_DUE,
     );

@@ -17,6 +17,17 @@ pub fn new(case: &[u64], x: &mut [f64], y: &mut [f64]) -> u64
     of_answer(legendre::new(nmax, &mut x[..a], &mut y[..b]))
 }
 
+// The degree up to which the rows stand, N, and the lengths of the two tables.
+pub fn grow(case: &[u64], x: &mut [f64], y: &mut [f64]) -> u64
+    requires { ⌜ (64 ≤ length (now x)) × (64 ≤ length (now y)) ⌝ }
+{
+    let from = size(case, 0);
+    let nmax = size(case, 1);
+    let a = room(case, 2);
+    let b = room(case, 3);
+    of_answer(legendre::grow(from, nmax, &mut x[..a], &mut y[..b]))
+}
+
 // N, and the lengths of the two tables and of P.
 pub fn compute(case: &[u64], list: &[f64], x: &mut [f64]) -> u64
     requires { ⌜ (64 ≤ length (now list)) × (64 ≤ length (now x)) ⌝ }

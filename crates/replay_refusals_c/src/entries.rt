@@ -7,6 +7,7 @@ use geopotential::models::geopotential_degree_amplitudes;
 use geopotential::points::geopotential_acceleration_neu;
 use geopotential::points::geopotential_gravity_neu;
 use geopotential::points::geopotential_partials;
+use geopotential::tables::geopotential_legendre_grow;
 use geopotential::tensors::geopotential_second_partials;
 use geopotential::tensors::geopotential_second_partials_along;
 use geopotential::tensors::geopotential_tensor_neu;
@@ -253,4 +254,15 @@ pub fn tensor_neu(case: &[u64], x: &mut [f64]) -> u64
         0.8,
         &mut x[..o],
     ) as u64
+}
+
+// The degree up to which the rows stand, N, and the lengths of the two tables.
+pub fn legendre_grow(case: &[u64], x: &mut [f64], y: &mut [f64]) -> u64
+    requires { ⌜ (64 ≤ length (now x)) × (64 ≤ length (now y)) ⌝ }
+{
+    let from = size(case, 0);
+    let nmax = size(case, 1);
+    let a = room(case, 2);
+    let b = room(case, 3);
+    geopotential_legendre_grow(from, nmax, &mut x[..a], &mut y[..b]) as u64
 }

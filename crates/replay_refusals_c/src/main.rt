@@ -1,5 +1,6 @@
 // Replays what the C entries refuse by themselves (cases.rt): a number that is no functional's, a tide that is none, lists of fixed lengths; and which of
-// two wrong lists they refuse. For each entry a line, how many of its refusals, and of the places that it changes in the lists lent to it, are those due.
+// two wrong lists they refuse; of `legendre_grow` all that it refuses. For each entry a line, how many of its refusals, and of the places that it changes
+// in the lists lent to it, are those due.
 mod cases;
 mod entries;
 mod model_files;
@@ -34,7 +35,8 @@ fn answer(
         7 => entries::second_partials_along(case, list, w, x),
         8 => entries::acceleration_neu(case, x),
         9 => entries::gravity_neu(case, x),
-        _ => entries::tensor_neu(case, x),
+        10 => entries::tensor_neu(case, x),
+        _ => entries::legendre_grow(case, x, y),
     }
 }
 
@@ -54,8 +56,8 @@ fn show_numbers(which: usize, case: &[u64]) -> Seen {
 
 fn show(which: usize, case: &[u64]) -> Seen {
     match which {
-        11 => model_files::show_read(case),
-        12 => model_files::show_write(case),
+        12 => model_files::show_read(case),
+        13 => model_files::show_write(case),
         _ => show_numbers(which, case),
     }
 }
@@ -117,14 +119,20 @@ fn main() {
     print(b"gravity_neu ", 9, &cases::THREE, &cases::THREE_DUE);
     print(b"tensor_neu ", 10, &cases::NINE, &cases::NINE_DUE);
     print(
-        b"model_read ",
+        b"legendre_grow ",
         11,
+        &cases::LEGENDRE_GROW,
+        &cases::LEGENDRE_GROW_DUE,
+    );
+    print(
+        b"model_read ",
+        12,
         &cases::MODEL_READ,
         &cases::MODEL_READ_DUE,
     );
     print(
         b"model_write ",
-        12,
+        13,
         &cases::MODEL_WRITE,
         &cases::MODEL_WRITE_DUE,
     );

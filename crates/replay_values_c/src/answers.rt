@@ -613,3 +613,72 @@ pub const TENSOR_LENGTHS: [u64; 3] = [0, 9, 1234];
 
 // what is told of a tensor, with 0 places
 pub const TENSOR_LENGTHS_SHORT: [u64; 1] = [3];
+
+// marks in a and b after `grow` from 1 to 2
+pub const GROW: [u64; 15] = [
+    0,
+    0x4093_4a00_0000_0000,
+    0x4093_4a00_0000_0000,
+    0x4093_4a00_0000_0000,
+    0x3ffe_fbde_b14f_4eda,
+    0x4001_e377_9b97_f4a8,
+    0x0000_0000_0000_0000,
+    0x4093_4a00_0000_0000,
+    0x4093_4a00_0000_0000,
+    0x4093_4a00_0000_0000,
+    0x4093_4a00_0000_0000,
+    0x3ff1_e377_9b97_f4a8,
+    0x0000_0000_0000_0000,
+    0x0000_0000_0000_0000,
+    0x4093_4a00_0000_0000,
+];
+
+// marks in a and b after `grow` from 2 to 2
+pub const GROW_NONE: [u64; 15] = [
+    0,
+    0x4093_4a00_0000_0000,
+    0x4093_4a00_0000_0000,
+    0x4093_4a00_0000_0000,
+    0x4093_4a00_0000_0000,
+    0x4093_4a00_0000_0000,
+    0x4093_4a00_0000_0000,
+    0x4093_4a00_0000_0000,
+    0x4093_4a00_0000_0000,
+    0x4093_4a00_0000_0000,
+    0x4093_4a00_0000_0000,
+    0x4093_4a00_0000_0000,
+    0x4093_4a00_0000_0000,
+    0x4093_4a00_0000_0000,
+    0x4093_4a00_0000_0000,
+];
+
+// marks in a and b after `grow` from 1 to 2701
+pub const GROW_BEYOND: [u64; 15] = [
+    1,
+    0x4093_4a00_0000_0000,
+    0x4093_4a00_0000_0000,
+    0x4093_4a00_0000_0000,
+    0x4093_4a00_0000_0000,
+    0x4093_4a00_0000_0000,
+    0x4093_4a00_0000_0000,
+    0x4093_4a00_0000_0000,
+    0x4093_4a00_0000_0000,
+    0x4093_4a00_0000_0000,
+    0x4093_4a00_0000_0000,
+    0x4093_4a00_0000_0000,
+    0x4093_4a00_0000_0000,
+    0x4093_4a00_0000_0000,
+    0x4093_4a00_0000_0000,
+];
+
+// what is told of a and b of degree 3, in a list of 3
+pub const GROW_LENGTHS: [u64; 4] = [0, 10, 10, 1234];
+
+// what is told of a and b of degree 2700, in a list of 3
+pub const GROW_LENGTHS_LARGE: [u64; 4] = [0, 3649051, 3649051, 1234];
+
+// what is told of a and b of degree 2701, in a list of 3
+pub const GROW_LENGTHS_BEYOND: [u64; 4] = [1, 1234, 1234, 1234];
+
+// what is told of a and b of degree 3, in a list of 1
+pub const GROW_LENGTHS_SHORT: [u64; 2] = [3, 1234];
