@@ -3,8 +3,9 @@
 
     compare/run bench > FILE && python3 compare/ratios.py FILE
 
-A ratio is our time by the Rust's in one run; the root's limit is in nanoseconds a call, a model file's in GB/s at least. Times depend on the
-machine and on what else it does, so a row beyond its limit is said and is no failure; a row that the benchmark did not print is one.
+A ratio is our time by the Rust's in one run, or by that of our own `new` where the row says so; the root's limit is in nanoseconds a call, a model
+file's in GB/s at least. Times depend on the machine and on what else it does, so a row beyond its limit is said and is no failure; a row that the
+benchmark did not print is one.
 """
 import sys
 
@@ -13,6 +14,7 @@ ROWS = [
     ("root, a call, ns", "root", "ours", 14.0),
     ("Legendre::new N = 96", "Legendre::new, N = 96", "ratio", 4.0),
     ("Legendre::new N = 2700", "Legendre::new, N = 2700", "ratio", 2.0),
+    ("grow, ten steps to 2700, beside our new", "grow, ten steps to 2700, beside our new", "ratio", 1.1),
     ("compute N = 96", "compute, N = 96", "ratio", 0.6),
     ("compute N = 2700", "compute, N = 2700", "ratio", 0.2),
     ("compute_with_derivative N = 96", "compute_with_derivative, N = 96", "ratio", 1.5),

@@ -147,6 +147,42 @@ static void tables(void)
     free(a), free(b), free(p), free(dp);
 }
 
+/* Whether two lists have the same bits in this many numbers. */
+static int same(const double *x, const double *y, size_t length)
+{
+    return memcmp(x, y, length * sizeof *x) == 0;
+}
+
+/* Tables up to degree 1 that grow to 2 and 3, beside tables up to 3 made at once; the lists have one number more than the tables. */
+static void growing_tables(void)
+{
+    size_t lengths[LISTS];
+    CHECK(geopotential_legendre_grow_lengths(3, lengths, LISTS) == GEOPOTENTIAL_DONE && lengths[0] == 10 && lengths[1] == 10);
+    const size_t size = lengths[0], more = size + 1;
+    double *a = list(size), *b = list(size), *wholea = list(size), *wholeb = list(size), *sevens = list(size);
+    CHECK(geopotential_legendre_grow_lengths(2701, lengths, LISTS) == GEOPOTENTIAL_SIZE && lengths[0] == size);
+    CHECK(geopotential_legendre_new(3, wholea, size, wholeb, size) == GEOPOTENTIAL_DONE);
+    /* Refused: nothing is written. */
+    CHECK(geopotential_legendre_grow(1, 2701, a, more, b, more) == GEOPOTENTIAL_SIZE);
+    CHECK(geopotential_legendre_grow(1, 3, a, size - 1, b, more) == GEOPOTENTIAL_SPACE);
+    CHECK(geopotential_legendre_grow(1, 3, a, more, b, size - 1) == GEOPOTENTIAL_SPACE);
+    CHECK(same(a, sevens, more) && same(b, sevens, more));
+    /* Done, and nothing to write. */
+    CHECK(geopotential_legendre_grow(3, 3, a, more, b, more) == GEOPOTENTIAL_DONE);
+    CHECK(geopotential_legendre_grow(SIZE_MAX, 2, a, more, b, more) == GEOPOTENTIAL_DONE);
+    CHECK(same(a, sevens, more) && same(b, sevens, more));
+    /* Behind three numbers that are no table's: these stay, and nothing behind degree 2 is written. */
+    CHECK(geopotential_legendre_grow(1, 2, a, more, b, more) == GEOPOTENTIAL_DONE);
+    CHECK(same(a, sevens, 3) && same(a + 3, wholea + 3, 3) && same(a + 6, sevens, more - 6));
+    CHECK(same(b, sevens, 3) && same(b + 3, wholeb + 3, 3) && same(b + 6, sevens, more - 6));
+    /* Behind the table of degree 1. */
+    CHECK(geopotential_legendre_new(1, a, more, b, more) == GEOPOTENTIAL_DONE);
+    CHECK(geopotential_legendre_grow(1, 2, a, more, b, more) == GEOPOTENTIAL_DONE);
+    CHECK(geopotential_legendre_grow(2, 3, a, more, b, more) == GEOPOTENTIAL_DONE);
+    CHECK(same(a, wholea, size) && same(b, wholeb, size) && a[size] == 7 && b[size] == 7);
+    free(a), free(b), free(wholea), free(wholeb), free(sevens);
+}
+
 /* A point mass (c(0, 0) = 1) at twice its reference radius: V = gm/r, and a grid of two rows and three longitudes. */
 static void grid(void)
 {
@@ -295,6 +331,7 @@ int main(void)
     coefficients();
     model_files();
     tables();
+    growing_tables();
     grid();
     points();
     second_derivatives();

@@ -1,5 +1,5 @@
 //! Times of the crate `legendre`. `Legendre::new` allocates its tables, ours writes to lists at hand; a second line has the
-//! published loops on lists at hand.
+//! published loops on lists at hand. The Rust cannot let tables grow; its lines have the published formulas on the new row, or whole tables.
 
 use oracle::standins::tricomi;
 use oracle::{Legendre, gauss_legendre};
@@ -13,6 +13,7 @@ pub fn bench() {
     for (nmax, calls) in [(96, 200), (2700, 1)] {
         degree(nmax, calls);
     }
+    growth();
     for (n, calls) in [(32, 200), (181, 20), (2701, 1)] {
         let guesses = tricomi(n);
         let (mut x, mut w) = (vec![0.0; n], vec![0.0; n]);
@@ -67,17 +68,49 @@ fn degree(nmax: usize, calls: usize) {
     race(&format!("compute_with_derivative, N = {nmax}"), calls, ours, rust);
 }
 
+/// Tables that grow to degree 2700: by their last row alone, and from degree 0 in ten steps.
+fn growth() {
+    const NMAX: usize = 2700;
+    const STEPS: usize = 10;
+    let length = table(NMAX);
+    let (mut a, mut b) = (vec![1.0; length], vec![1.0; length]);
+    let (mut other_a, mut other_b) = (vec![1.0; length], vec![1.0; length]);
+    let mut grow = |from, nmax| unsafe { geopotential_legendre_grow(from, nmax, a.as_mut_ptr(), length, b.as_mut_ptr(), length) };
+
+    let calls = 100;
+    let plain = || repeat(calls, || row_at_hand(NMAX, &mut other_a, &mut other_b));
+    race("grow, 2699 to 2700, lists at hand", calls, || repeat(calls, || grow(NMAX - 1, NMAX)), plain);
+
+    let width = NMAX / STEPS;
+    let mut ten = || (0..STEPS).map(|step| grow(step * width, (step + 1) * width)).fold(0, |all, refusal| all | refusal);
+    race("grow, ten steps to 2700", 1, &mut ten, || allocated(Legendre::new(NMAX)));
+    // Ours on both sides: in the Rust's column stands one call of `new`.
+    let at_once = || unsafe { geopotential_legendre_new(NMAX, other_a.as_mut_ptr(), length, other_b.as_mut_ptr(), length) };
+    race("grow, ten steps to 2700, beside our new", 1, ten, at_once);
+}
+
 /// The published loops of `Legendre::new`, on lists at hand.
 fn at_hand(nmax: usize, a: &mut [f64], b: &mut [f64]) -> u32 {
     for m in 0..=nmax {
         for n in m + 1..=nmax {
-            let (nf, mf) = (n as f64, m as f64);
-            let k = oracle::legendre::idx(n, m);
-            a[k] = ((2.0 * nf - 1.0) * (2.0 * nf + 1.0) / ((nf - mf) * (nf + mf))).sqrt();
-            if n > m + 1 {
-                b[k] = ((2.0 * nf + 1.0) * (nf + mf - 1.0) * (nf - mf - 1.0) / ((nf - mf) * (nf + mf) * (2.0 * nf - 3.0))).sqrt();
-            }
+            cell(n, m, a, b);
         }
     }
     0
+}
+
+/// One row of both tables.
+fn row_at_hand(n: usize, a: &mut [f64], b: &mut [f64]) -> u32 {
+    (0..n).for_each(|m| cell(n, m, a, b));
+    0
+}
+
+/// The published formulas.
+fn cell(n: usize, m: usize, a: &mut [f64], b: &mut [f64]) {
+    let (nf, mf) = (n as f64, m as f64);
+    let k = oracle::legendre::idx(n, m);
+    a[k] = ((2.0 * nf - 1.0) * (2.0 * nf + 1.0) / ((nf - mf) * (nf + mf))).sqrt();
+    if n > m + 1 {
+        b[k] = ((2.0 * nf + 1.0) * (nf + mf - 1.0) * (nf - mf - 1.0) / ((nf - mf) * (nf + mf) * (2.0 * nf - 3.0))).sqrt();
+    }
 }

@@ -2,6 +2,7 @@
 
 pub mod bench;
 pub mod replay;
+mod tables;
 
 use core::f64::consts::FRAC_PI_2;
 
@@ -22,30 +23,14 @@ const COUNT: u64 = 20_000;
 const LARGE: [usize; 3] = [96, 360, 2700];
 
 pub fn compare(report: &mut Report) {
-    report.call("legendre.new", recursion_coefficients);
+    report.call("legendre.new", tables::new);
+    report.call("legendre.grow", tables::grow);
+    report.call("legendre.steps", tables::steps);
+    report.call("legendre.fronts", tables::fronts);
     report.call("legendre.compute", |tally, cases| latitudes(tally, cases, 3, compute));
     report.call("legendre.with_derivative", |tally, cases| latitudes(tally, cases, 4, compute_with_derivative));
     report.call("legendre.entry", entries);
     report.call("legendre.gauss_legendre", quadrature);
-}
-
-fn recursion_coefficients(tally: &mut Tally, _: &mut Cases) {
-    for nmax in [0, 1, 2, 5] {
-        around(nmax, &[table(nmax); 2], |degree, lengths| new(tally, degree, lengths));
-    }
-    for nmax in (0..=60).chain(LARGE) {
-        new(tally, nmax, &[table(nmax), table(nmax) + 3]);
-    }
-}
-
-/// Both tables of recursion coefficients.
-fn new(tally: &mut Tally, nmax: usize, lengths: &[usize]) {
-    let (mut a, mut b) = (Guarded::marked(lengths[0]), Guarded::marked(lengths[1]));
-    let due = Checks { degree: nmax, outputs: &beside(lengths, pairs(nmax)), ..Checks::default() }.due();
-    let ours = unsafe { geopotential_legendre_new(nmax, a.pointer(), a.len(), b.pointer(), b.len()) };
-    let answer = answered(due, || Legendre::new(nmax)).map_or((vec![], vec![]), |legendre| (legendre.a, legendre.b));
-    let fault = fault(ours, due).or_else(|| a.fault("a", &answer.0)).or_else(|| b.fault("b", &answer.1));
-    tally.call(fault, || format!("new, N {nmax}, lengths {lengths:?}"));
 }
 
 /// A call at one latitude: the tables, N, the pair, the lengths of a, b and the outputs.

@@ -116,6 +116,7 @@ const TOLD: &[Told] = &[
         due: |s| [tables::<2>(s), vec![rows(s[0]); 2]].concat(),
     },
     Told { name: "legendre_new", entry: One(geopotential_legendre_new_lengths), limits: DEGREE, due: tables::<2> },
+    Told { name: "legendre_grow", entry: One(geopotential_legendre_grow_lengths), limits: DEGREE, due: tables::<2> },
     Told { name: "legendre_compute", entry: One(geopotential_legendre_compute_lengths), limits: DEGREE, due: tables::<3> },
     Told {
         name: "legendre_compute_with_derivative",

@@ -4,6 +4,7 @@
 pub mod entries;
 pub mod fields;
 pub mod files;
+mod grow;
 pub mod models;
 pub mod points;
 mod tensors;
@@ -203,10 +204,15 @@ fn distinct<T: PartialEq>(list: Vec<T>) -> Vec<T> {
     kept
 }
 
-/// A list whose first places are changed, as the programs tell it: how many are, times 100, and the place behind the last; each further list
-/// stands four decimal digits higher.
+/// A list whose places from one to another are changed, as the programs tell it: how many are, times 100, and the place behind the last; each further
+/// list stands four decimal digits higher.
+fn changed(place: usize, from: u64, end: u64) -> u64 {
+    (100 * (end - from) + end) * 10_000_u64.pow(place as u32)
+}
+
+/// A list whose first places are changed.
 fn front(place: usize, length: u64) -> u64 {
-    (100 * length + length) * 10_000_u64.pow(place as u32)
+    changed(place, 0, length)
 }
 
 /// Cases and what is due of them, as constants.
