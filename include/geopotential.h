@@ -9,8 +9,8 @@
  * Lengths   For each entry with lists, NAME_lengths answers the length of every list, in the order of the parameters. Input lists have
  *           exactly that length (Love numbers at least that), outputs and working lists that length or more.
  * Answers   0 where the call is done, else the number of the refusal below. A refused call writes nothing. A call that is done writes
- *           its answer at the front of each output and nothing behind it; input lists are never written. What a working list holds in
- *           its first numbers afterwards is free, the part behind them keeps its bits.
+ *           its answer at the front of each output (legendre_grow: behind the rows that stand there) and nothing behind it; input lists
+ *           are never written. What a working list holds in its first numbers afterwards is free, the part behind them keeps its bits.
  * Order     A call checks SIZE, then LENGTH, then LOVE, then SPACE; a number that is no functional is refused before all (255).
  * NaN       Any number is ordinary input, NaN and infinities too. The bits of a NaN in an answer are free, but in a model file all bits
  *           are kept.
@@ -122,8 +122,14 @@ uint32_t geopotential_model_write(uint64_t gm, uint64_t radius, uint32_t tide, u
 
 /* ---- tables of the fully normalized Legendre functions, T numbers each */
 
-/* The recursion coefficients a and b, once for all latitudes. Refused by 1, 3. */
+/* The recursion coefficients a and b, once for all latitudes. Those of one degree are the front of those of any larger one, bit for bit. Refused
+ * by 1, 3. */
 uint32_t geopotential_legendre_new(size_t nmax, double *a, size_t a_len, double *b, size_t b_len);
+/* The rows of a and b above degree from and up to nmax, each in its place. The rows up to from, which stand before them, keep their bits: where
+ * they are what legendre_new of from wrote, a and b then hold what legendre_new of nmax writes. Where from is nmax or more, nothing is written.
+ * In longer lists the tables up to nmax are the first T numbers, of which legendre_compute is told the length. Refused by 1 (nmax above 2700; from
+ * may be any number), 3. */
+uint32_t geopotential_legendre_grow(size_t from, size_t nmax, double *a, size_t a_len, double *b, size_t b_len);
 /* P(n, m) at one latitude. Refused by 1, 2, 3. */
 uint32_t geopotential_legendre_compute(size_t nmax, double t, double u, const double *a, size_t a_len, const double *b, size_t b_len,
                                        double *p, size_t p_len);
@@ -235,6 +241,7 @@ uint32_t geopotential_degree_amplitudes_lengths(size_t nmax, size_t *lengths, si
 uint32_t geopotential_model_read_lengths(const uint8_t *bytes, size_t bytes_len, size_t *lengths, size_t lengths_len);
 uint32_t geopotential_model_write_lengths(size_t nmax, uint32_t dated, size_t *lengths, size_t lengths_len);      /* c, s, out */
 uint32_t geopotential_legendre_new_lengths(size_t nmax, size_t *lengths, size_t lengths_len);                     /* a, b */
+uint32_t geopotential_legendre_grow_lengths(size_t nmax, size_t *lengths, size_t lengths_len);                    /* a, b */
 uint32_t geopotential_legendre_compute_lengths(size_t nmax, size_t *lengths, size_t lengths_len);                 /* a, b, p */
 uint32_t geopotential_legendre_compute_with_derivative_lengths(size_t nmax, size_t *lengths, size_t lengths_len); /* a, b, p, dp */
 uint32_t geopotential_legendre_entry_lengths(size_t nmax, size_t *lengths, size_t lengths_len);                   /* table */

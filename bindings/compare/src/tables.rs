@@ -11,18 +11,43 @@ use crate::tally::{Report, Tally, shown};
 const COUNT: u64 = 4_000;
 
 pub fn compare(report: &mut Report) {
-    report.call("Legendre, p", |tally, cases| tables(tally, cases, table));
-    report.call("Legendre, p and dp", |tally, cases| tables(tally, cases, table_with_derivative));
+    report.call("Legendre, p", |tally, cases| tables(tally, cases, made, table));
+    report.call("Legendre, p and dp", |tally, cases| tables(tally, cases, made, table_with_derivative));
+    report.call("Legendre grown, p", |tally, cases| tables(tally, cases, grown, table));
+    report.call("Legendre grown, p and dp", |tally, cases| tables(tally, cases, grown, table_with_derivative));
     report.call("gauss_legendre", rules);
     report.call("gauss_grid", grids);
 }
 
+/// Our table of a degree; the oracle's is made at once.
+type Table = fn(&mut Cases, usize) -> geopotential::Legendre;
+
 /// A table's entries on both sides, at a latitude (radians).
 type Tables = fn(&mut geopotential::Legendre, &mut oracle::Legendre, f64) -> Option<String>;
 
-fn tables(tally: &mut Tally, cases: &mut Cases, call: Tables) {
+fn made(_: &mut Cases, nmax: usize) -> geopotential::Legendre {
+    geopotential::Legendre::new(nmax)
+}
+
+/// A table of a lower degree that grows in steps, each by one degree or by several; some meet the numbers of a latitude.
+fn grown(cases: &mut Cases, nmax: usize) -> geopotential::Legendre {
+    let mut table = geopotential::Legendre::new(cases.below(nmax as u64 + 1) as usize);
+    while table.max_degree() < nmax {
+        match cases.below(4) {
+            0 => table.compute(angle(cases)),
+            1 => table.compute_with_derivative(angle(cases)),
+            _ => {}
+        }
+        let left = (nmax - table.max_degree()) as u64;
+        let step = if cases.below(2) == 0 { 1 } else { 1 + cases.below(left) };
+        table.grow(table.max_degree() + step as usize);
+    }
+    table
+}
+
+fn tables(tally: &mut Tally, cases: &mut Cases, table: Table, call: Tables) {
     for nmax in degrees(cases, COUNT, &LARGE) {
-        let (mut ours, mut oracle) = (geopotential::Legendre::new(nmax), oracle::Legendre::new(nmax));
+        let (mut ours, mut oracle) = (table(cases, nmax), oracle::Legendre::new(nmax));
         // The second latitude meets the tables of the first.
         for _ in 0..2 {
             let lat = angle(cases);

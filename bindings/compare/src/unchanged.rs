@@ -84,7 +84,10 @@ macro_rules! program {
             }
 
             pub fn legendre(input: &Input) -> Vec<f64> {
-                let mut leg = Legendre::new(input.nmax);
+                entries(Legendre::new(input.nmax), input)
+            }
+
+            pub fn entries(mut leg: Legendre, input: &Input) -> Vec<f64> {
                 let mut out = Vec::new();
                 for &lat in &input.lats {
                     leg.compute(lat);
@@ -147,6 +150,13 @@ macro_rules! program {
 program!(ours, geopotential);
 program!(theirs, published);
 
+/// The part `legendre` with a table that grew degree by degree, which the published one can't.
+fn grown(input: &Input) -> Vec<f64> {
+    let mut leg = geopotential::Legendre::new(input.cut.min(input.nmax));
+    (input.cut..=input.nmax).for_each(|nmax| leg.grow(nmax));
+    ours::entries(leg, input)
+}
+
 type Program = fn(&Input) -> Vec<f64>;
 
 /// Each part of the program, compiled against the one and the other.
@@ -155,6 +165,7 @@ const PARTS: &[(&str, Program, Program)] = &[
     ("coefficients", ours::coefficients, theirs::coefficients),
     ("equality", ours::equality, theirs::equality),
     ("legendre", ours::legendre, theirs::legendre),
+    ("legendre, grown", grown, theirs::legendre),
     ("gauss rules, grids", ours::rules, theirs::rules),
     ("grid", ours::grid, theirs::grid),
     ("grid, zeros unsigned", |input| unsigned(ours::grid(input)), |input| unsigned(theirs::grid(input))),

@@ -16,7 +16,8 @@ use crate::workspace::{self, List};
 pub const MAX_DEGREE: usize = 2700;
 
 /// A reusable table of `P̄nm` (and optionally `∂P̄nm/∂φ`) for all `0 ≤ m ≤ n ≤ nmax` at one
-/// latitude. The recursion coefficients are computed once in [`Legendre::new`].
+/// latitude. The recursion coefficients are computed once in [`Legendre::new`], those of degrees that
+/// are added later in [`Legendre::grow`].
 ///
 /// ```
 /// use geopotential::Legendre;
@@ -52,6 +53,62 @@ impl Legendre {
         let (mut a, mut b) = (vec![0.0; a], vec![0.0; b]);
         tables::legendre_new(nmax, &mut a, &mut b)?;
         Ok(Legendre { nmax, a, b, p: vec![0.0; p], dp: Vec::new() })
+    }
+
+    /// Carry the table on to degree `nmax`: the recursion coefficients that it has are kept, and those of the degrees above are
+    /// computed behind them. It is then as [`new`](Self::new) makes one of that degree, in every bit: `P̄nm` is 0 until the next
+    /// [`compute`](Self::compute), and there are no derivatives until the next
+    /// [`compute_with_derivative`](Self::compute_with_derivative). If `nmax <= max_degree()`, nothing changes: the table keeps its
+    /// degree and the numbers of the last latitude. Added: the published table can't grow.
+    ///
+    /// A model that is loaded degree by degree:
+    ///
+    /// ```
+    /// use geopotential::Legendre;
+    ///
+    /// // C̄n0, C̄n1, .. of each degree, in the order in which they come.
+    /// let model = [vec![1.0], vec![0.0, 0.0], vec![-4.8417e-4, -2.0e-10, 2.4394e-6]];
+    ///
+    /// // The sum at latitude 0.3 and longitude 0, as far as the model has come.
+    /// let (mut leg, mut sum) = (Legendre::new(0), 0.0);
+    /// for (n, c) in model.iter().enumerate() {
+    ///     leg.grow(n);
+    ///     leg.compute(0.3);
+    ///     sum += (0..=n).map(|m| c[m] * leg.p(n, m)).sum::<f64>();
+    /// }
+    /// assert!((sum - 1.0004).abs() < 1e-5);
+    ///
+    /// // A table that is made at once has the same bits.
+    /// let mut whole = Legendre::new(2);
+    /// whole.compute(0.3);
+    /// for (n, m) in [(0, 0), (1, 0), (1, 1), (2, 0), (2, 1), (2, 2)] {
+    ///     assert_eq!(leg.p(n, m).to_bits(), whole.p(n, m).to_bits());
+    /// }
+    /// ```
+    ///
+    /// # Panics
+    /// If `nmax > MAX_DEGREE`; the table is then as it was.
+    #[track_caller]
+    pub fn grow(&mut self, nmax: usize) {
+        or_panic(self.try_grow(nmax));
+    }
+
+    /// [`grow`](Self::grow), refused instead of a panic.
+    pub fn try_grow(&mut self, nmax: usize) -> Result<(), Refusal> {
+        if nmax <= self.nmax {
+            return Ok(());
+        }
+        // What is refused is refused here, before a list changes: the call itself takes lists of these lengths.
+        let [a, b] = lengths::legendre_grow(nmax)?;
+        let [_, _, p] = lengths::legendre_compute(nmax)?;
+        self.a.resize(a, 0.0);
+        self.b.resize(b, 0.0);
+        tables::legendre_grow(self.nmax, nmax, &mut self.a, &mut self.b)?;
+        // Nothing of the last latitude is wanted: let it go before the longer list is made, and copy nothing.
+        (self.p, self.dp) = (Vec::new(), Vec::new());
+        self.p = vec![0.0; p];
+        self.nmax = nmax;
+        Ok(())
     }
 
     /// Maximum degree of the table.
@@ -93,7 +150,7 @@ impl Legendre {
     /// `∂P̄nm/∂φ` from the last [`compute_with_derivative`](Self::compute_with_derivative).
     ///
     /// # Panics
-    /// If `m > n`, `n > max_degree()`, or no derivative has been computed.
+    /// If `m > n`, `n > max_degree()`, or no derivative has been computed since the table was made or [grew](Self::grow).
     #[track_caller]
     pub fn dp(&self, n: usize, m: usize) -> f64 {
         or_panic(self.try_dp(n, m))

@@ -26,9 +26,9 @@
 //!
 //! # Added
 //!
-//! [`Coefficients::partials_along`] and [`Coefficients::second_partials_along`] take many points at once, [`model_file`] keeps a
-//! field in a file with every bit of it, [`Coefficients::date`] is the day that a field is of, and [`Refusal`] says why a call was
-//! refused.
+//! [`Coefficients::partials_along`] and [`Coefficients::second_partials_along`] take many points at once, [`Legendre::grow`] carries
+//! a table on to a higher degree, [`model_file`] keeps a field in a file with every bit of it, [`Coefficients::date`] is the day that
+//! a field is of, and [`Refusal`] says why a call was refused.
 //!
 //! # Not ported
 //!

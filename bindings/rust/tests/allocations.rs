@@ -75,6 +75,11 @@ fn tables_rules_and_matrices() {
     let mut leg = Legendre::new(20);
     assert_eq!(again(|| leg.compute(0.3)), 0);
     assert_eq!(again(|| leg.compute_with_derivative(-0.3)), 0);
+    assert_eq!(again(|| leg.grow(20)), 0);
+    assert_eq!(again(|| leg.try_grow(2701)), 0);
+    for _ in 0..20 {
+        assert!(again(|| leg.grow(leg.max_degree() + 1)) <= 3, "P̄nm and the two lists of recursion coefficients");
+    }
     assert_eq!(again(|| gauss_legendre(21)), 2, "nodes and weights");
     assert_eq!(again(|| symmetric_eigen(&[2.0, 1.0, 1.0, 2.0], 2)), 2, "values and vectors");
     assert_eq!(again(|| polar_cap(6, 0.5)), 29, "28 functions and their list");

@@ -18,6 +18,7 @@ fn sizes() {
     let (field, many) = (Coefficients::zeros(1.0, 1.0, 0), vec![0.0; 65_536]);
     panics(Refusal::Size, || Coefficients::zeros(1.0, 1.0, 2701));
     panics(Refusal::Size, || Legendre::new(2701));
+    panics(Refusal::Size, || Legendre::new(2).grow(2701));
     panics(Refusal::Size, || gauss_legendre(2702));
     panics(Refusal::Size, || gauss_grid(2701));
     panics(Refusal::Size, || Functional::GeoidHeight.factor(2701, 1.0, 1.0, 1.0));
@@ -35,7 +36,11 @@ fn lengths() {
     panics(Refusal::Length, || Coefficients::analysis(&Functional::Potential, 1.0, &[1.0], 0, 1.0, 1.0));
     panics(Refusal::Length, || symmetric_eigen(&[1.0; 3], 2));
     panics(Refusal::Length, || householder_ql(&[1.0; 5], 2));
-    panics(Refusal::Length, || Legendre::new(2).dp(0, 0));
+    let mut leg = Legendre::new(2);
+    panics(Refusal::Length, || leg.dp(0, 0));
+    leg.compute_with_derivative(0.5);
+    leg.grow(3);
+    panics(Refusal::Length, || leg.dp(0, 0));
 }
 
 #[test]
@@ -67,8 +72,14 @@ fn a_panic_names_the_callers_place() {
             *PLACE.lock().unwrap() = place.file().to_string();
         }
     }));
-    let field = Coefficients::zeros(1.0, 1.0, 0);
-    assert!(panic::catch_unwind(|| field.c(1, 0)).is_err());
+    let (field, mut leg) = (Coefficients::zeros(1.0, 1.0, 0), Legendre::new(0));
+    let mut places = Vec::new();
+    let mut place = |call: &mut dyn FnMut()| {
+        assert!(panic::catch_unwind(AssertUnwindSafe(call)).is_err());
+        places.push(std::mem::take(&mut *PLACE.lock().unwrap()));
+    };
+    place(&mut || _ = field.c(1, 0));
+    place(&mut || leg.grow(2701));
     panic::set_hook(before);
-    assert!(PLACE.lock().unwrap().ends_with("panics.rs"));
+    assert!(places.iter().all(|place| place.ends_with("panics.rs")), "{places:?}");
 }

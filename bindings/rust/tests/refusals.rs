@@ -16,6 +16,7 @@ fn degrees_above_the_limit() {
     for n in BEYOND {
         assert_eq!(Coefficients::try_zeros(1.0, 1.0, n), Err(Refusal::Size));
         assert_eq!(Legendre::try_new(n).err(), Some(Refusal::Size));
+        assert_eq!(Legendre::new(3).try_grow(n), Err(Refusal::Size));
         assert_eq!(Functional::Potential.try_factor(n, 1.0, 1.0, 1.0), Err(Refusal::Size));
         assert_eq!(Coefficients::try_analysis(&Functional::Potential, 1.0, &[], n, 1.0, 1.0), Err(Refusal::Size));
         assert_eq!(try_gauss_grid(n), Err(Refusal::Size));

@@ -35,6 +35,8 @@ lengths! {
     fn degree_amplitudes(nmax) -> 4 = geopotential_degree_amplitudes_lengths;
     /// a, b.
     fn legendre_new(nmax) -> 2 = geopotential_legendre_new_lengths;
+    /// a, b.
+    fn legendre_grow(nmax) -> 2 = geopotential_legendre_grow_lengths;
     /// a, b, p.
     fn legendre_compute(nmax) -> 3 = geopotential_legendre_compute_lengths;
     /// a, b, p, dp.
@@ -103,6 +105,7 @@ mod tests {
         for n in [0, 1, 7, MAX_DEGREE] {
             let (t, trig) = (pairs(n), 2 * n + 2);
             assert_eq!(legendre_new(n), Ok([t; 2]));
+            assert_eq!(legendre_grow(n), Ok([t; 2]));
             assert_eq!(legendre_compute(n), Ok([t; 3]));
             assert_eq!(legendre_compute_with_derivative(n), Ok([t; 4]));
             assert_eq!(grid(n, 5, 9), Ok([t, t, n + 1, 10, 9 * trig, 3 * t + 3 * (n + 1), 45]));
@@ -151,6 +154,7 @@ mod tests {
         for n in [MAX_DEGREE + 1, 1 << 32, usize::MAX] {
             assert_eq!(zeros(n), Err(Refusal::Size));
             assert_eq!(truncated(n, 0), Err(Refusal::Size));
+            assert_eq!(legendre_grow(n), Err(Refusal::Size));
             assert_eq!(analysis(n), Err(Refusal::Size));
             assert_eq!(partials(n), Err(Refusal::Size));
             assert_eq!(second_partials(n), Err(Refusal::Size));

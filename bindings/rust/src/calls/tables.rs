@@ -15,6 +15,12 @@ pub fn legendre_new(nmax: usize, a: &mut [f64], b: &mut [f64]) -> Result<(), Ref
     Refusal::check(unsafe { geopotential_legendre_new(nmax, a.as_mut_ptr(), a.len(), b.as_mut_ptr(), b.len()) })
 }
 
+/// The rows above degree `from`, behind those up to it.
+pub fn legendre_grow(from: usize, nmax: usize, a: &mut [f64], b: &mut [f64]) -> Result<(), Refusal> {
+    // SAFETY: each list is one slice's, borrowed mutably.
+    Refusal::check(unsafe { geopotential_legendre_grow(from, nmax, a.as_mut_ptr(), a.len(), b.as_mut_ptr(), b.len()) })
+}
+
 /// At the latitude with sine `t` and cosine `u`.
 pub fn legendre_compute(Recursion { nmax, a, b }: Recursion, (t, u): (f64, f64), p: &mut [f64]) -> Result<(), Refusal> {
     // SAFETY: each list is one slice's; the last is borrowed mutably.

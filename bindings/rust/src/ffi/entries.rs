@@ -108,6 +108,7 @@ unsafe extern "C" {
     ) -> u32;
 
     pub fn geopotential_legendre_new(nmax: usize, a: *mut f64, a_len: usize, b: *mut f64, b_len: usize) -> u32;
+    pub fn geopotential_legendre_grow(from: usize, nmax: usize, a: *mut f64, a_len: usize, b: *mut f64, b_len: usize) -> u32;
     pub fn geopotential_legendre_compute(
         nmax: usize,
         t: f64,

@@ -9,6 +9,7 @@ unsafe extern "C" {
     pub fn geopotential_model_read_lengths(bytes: *const u8, bytes_len: usize, lengths: *mut usize, lengths_len: usize) -> u32;
     pub fn geopotential_model_write_lengths(nmax: usize, dated: u32, lengths: *mut usize, lengths_len: usize) -> u32;
     pub fn geopotential_legendre_new_lengths(nmax: usize, lengths: *mut usize, lengths_len: usize) -> u32;
+    pub fn geopotential_legendre_grow_lengths(nmax: usize, lengths: *mut usize, lengths_len: usize) -> u32;
     pub fn geopotential_legendre_compute_lengths(nmax: usize, lengths: *mut usize, lengths_len: usize) -> u32;
     pub fn geopotential_legendre_compute_with_derivative_lengths(nmax: usize, lengths: *mut usize, lengths_len: usize) -> u32;
     pub fn geopotential_gauss_legendre_lengths(n: usize, lengths: *mut usize, lengths_len: usize) -> u32;
