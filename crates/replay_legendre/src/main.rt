@@ -10,7 +10,7 @@ ghost use mathlib.Core.Path.{_≡_};
 ghost use Prim.Native.Nat.{_+_, _≤_};
 ghost use lib.ListN.{length};
 
-// What stands in every place of the large lists that grow.
+// What stands in every place of the large lists.
 const MARK: f64 = 1234.5;
 
 fn show_new() {
@@ -123,15 +123,13 @@ fn middle() -> Latitude {
 }
 
 // A table up to degree 130: its front, which is a table up to degree 4; at the first latitude P of degree 130, 131 numbers, then the derivatives.
-fn show_large() {
-    let mut a = [0.0; 8646];
-    let mut b = [0.0; 8646];
-    match legendre::new(130, &mut a, &mut b) {
+fn show_large_new(a: &mut [f64; 8646], b: &mut [f64; 8646]) {
+    match legendre::new(130, a, b) {
         Answer::Done => {
-            show_front(b"new 130, front of a ", &a, &answers::A);
-            show_front(b"new 130, front of b ", &b, &answers::B);
-            show_large_compute(middle(), &a, &b);
-            show_large_derivative(middle(), &a, &b);
+            show_front(b"new 130, front of a ", a, &answers::A);
+            show_front(b"new 130, front of b ", b, &answers::B);
+            show_large_compute(middle(), a, b);
+            show_large_derivative(middle(), a, b);
         }
         Answer::Refused(_) => {
             io::write_all(1, b"new 130 refused\n");
@@ -186,21 +184,27 @@ fn show_front(name: &[u8], table: &[f64], words: &[u64])
     show(name, &table[..end], words, 0);
 }
 
-// A table up to degree 120, by a short list of guesses, that grows to degree 130 by a long one.
-fn show_large_grow() {
-    let mut a = [MARK; 8646];
-    let mut b = [MARK; 8646];
-    match legendre::new(120, &mut a, &mut b) {
-        Answer::Done => show_large_grown(&mut a, &mut b),
+// A table that grows in two steps to degree 130: its last row, and P by all of its rows.
+fn show_large_grow(from: usize, by: usize, a: &mut [f64; 8646], b: &mut [f64; 8646]) {
+    match legendre::new(from, a, b) {
+        Answer::Done => show_first_step(from, by, a, b),
         Answer::Refused(_) => {
-            io::write_all(1, b"new 120 refused\n");
+            io::write_all(1, b"new refused\n");
         }
     }
 }
 
-// Its last row, and P by all of its rows.
-fn show_large_grown(a: &mut [f64; 8646], b: &mut [f64; 8646]) {
-    match legendre::grow(120, 130, a, b) {
+fn show_first_step(from: usize, by: usize, a: &mut [f64; 8646], b: &mut [f64; 8646]) {
+    match legendre::grow(from, by, a, b) {
+        Answer::Done => show_last_step(by, a, b),
+        Answer::Refused(_) => {
+            io::write_all(1, b"grow refused\n");
+        }
+    }
+}
+
+fn show_last_step(from: usize, a: &mut [f64; 8646], b: &mut [f64; 8646]) {
+    match legendre::grow(from, 130, a, b) {
         Answer::Done => {
             show_row(b"grow 130, a ", a, &answers::LARGE_TABLES, 0);
             show_row(b"grow 130, b ", b, &answers::LARGE_TABLES, 131);
@@ -210,6 +214,20 @@ fn show_large_grown(a: &mut [f64; 8646], b: &mut [f64; 8646]) {
             io::write_all(1, b"grow 130 refused\n");
         }
     }
+}
+
+// Tables up to degree 130 in lists of marks: by one call; by seven rows with guesses from a short list, then three without; by five with guesses from a
+// long list.
+fn show_large() {
+    let mut a = [MARK; 8646];
+    let mut b = [MARK; 8646];
+    show_large_new(&mut a, &mut b);
+    a = [MARK; 8646];
+    b = [MARK; 8646];
+    show_large_grow(120, 127, &mut a, &mut b);
+    a = [MARK; 8646];
+    b = [MARK; 8646];
+    show_large_grow(125, 125, &mut a, &mut b);
 }
 
 // A rule: a row of the answers has the guesses, the nodes and the weights.
@@ -285,5 +303,4 @@ fn main() {
     show_strange();
     show_far();
     show_large();
-    show_large_grow();
 }

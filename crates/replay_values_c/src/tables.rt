@@ -4,83 +4,61 @@ use crate::answers;
 use crate::told::MARK_LENGTH;
 use geopotential::lists::geopotential_legendre_grow_lengths;
 use geopotential::tables::geopotential_legendre_grow;
-use number::bits_of_number;
 use replay_cases::MARK;
-use replay_cases::print_line;
+use replay_print::show;
+use replay_print::show_words;
+ghost use Prim.Native.Nat.{_≤_};
+ghost use lib.ListN.{length};
 
-// Lists of marks, with one place behind a table of degree 2.
-fn grow(from: usize, nmax: usize) -> [u64; 15] {
+// Lists of marks, with one place behind a table of degree 2; due are the number, a and b.
+fn show_grow(from: usize, nmax: usize, due: &[u64; 15]) {
     let mut a = [MARK; 7];
     let mut b = [MARK; 7];
     let number = geopotential_legendre_grow(from, nmax, &mut a, &mut b);
-    [
-        number as u64,
-        bits_of_number(a[0]),
-        bits_of_number(a[1]),
-        bits_of_number(a[2]),
-        bits_of_number(a[3]),
-        bits_of_number(a[4]),
-        bits_of_number(a[5]),
-        bits_of_number(a[6]),
-        bits_of_number(b[0]),
-        bits_of_number(b[1]),
-        bits_of_number(b[2]),
-        bits_of_number(b[3]),
-        bits_of_number(b[4]),
-        bits_of_number(b[5]),
-        bits_of_number(b[6]),
-    ]
+    show_words(b"legendre_grow, refusal ", &[number as u64], due, 0);
+    show(b"legendre_grow, a ", &a, due, 1);
+    show(b"legendre_grow, b ", &b, due, 8);
 }
 
-// With a row to write, with none, and with a degree that is refused.
-fn show_grow() {
-    let written = grow(1, 2);
-    print_line(b"legendre_grow, values ", &written, &answers::GROW);
-    let none = grow(2, 2);
-    print_line(b"legendre_grow, no row ", &none, &answers::GROW_NONE);
-    let far = grow(18446744073709551615, 2);
-    print_line(b"legendre_grow, no row ", &far, &answers::GROW_NONE);
-    let beyond = grow(1, 2701);
-    print_line(b"legendre_grow, SIZE ", &beyond, &answers::GROW_BEYOND);
-}
-
-// What is told of its lists, with a place behind the lengths, and then with one too few.
-fn lengths(nmax: usize) -> [u64; 4] {
+// What is told of its lists, with a place behind the lengths.
+fn show_lengths(name: &[u8], nmax: usize, due: &[u64; 4])
+    requires { ⌜ length (now name) ≤ 80 ⌝ }
+{
     let mut l = [MARK_LENGTH; 3];
     let number = geopotential_legendre_grow_lengths(nmax, &mut l);
-    [number as u64, l[0] as u64, l[1] as u64, l[2] as u64]
+    let told = [number as u64, l[0] as u64, l[1] as u64, l[2] as u64];
+    show_words(name, &told, due, 0);
 }
 
-fn lengths_short() -> [u64; 2] {
+// With one too few.
+fn show_lengths_short() {
     let mut l = [MARK_LENGTH; 1];
     let number = geopotential_legendre_grow_lengths(3, &mut l);
-    [number as u64, l[0] as u64]
+    let told = [number as u64, l[0] as u64];
+    show_words(
+        b"legendre_grow_lengths, SPACE ",
+        &told,
+        &answers::GROW_LENGTHS_SHORT,
+        0,
+    );
 }
 
-fn show_lengths() {
-    let small = lengths(3);
-    print_line(b"legendre_grow_lengths ", &small, &answers::GROW_LENGTHS);
-    let large = lengths(2700);
-    print_line(
+// With a row to write, with none, and with a degree that is refused; then the lengths.
+pub fn show_tables() {
+    show_grow(1, 2, &answers::GROW);
+    show_grow(2, 2, &answers::GROW_NONE);
+    show_grow(18446744073709551615, 2, &answers::GROW_NONE);
+    show_grow(1, 2701, &answers::GROW_BEYOND);
+    show_lengths(b"legendre_grow_lengths ", 3, &answers::GROW_LENGTHS);
+    show_lengths(
         b"legendre_grow_lengths, 2700 ",
-        &large,
+        2700,
         &answers::GROW_LENGTHS_LARGE,
     );
-    let beyond = lengths(2701);
-    print_line(
+    show_lengths(
         b"legendre_grow_lengths, 2701 ",
-        &beyond,
+        2701,
         &answers::GROW_LENGTHS_BEYOND,
     );
-    let short = lengths_short();
-    print_line(
-        b"legendre_grow_lengths, SPACE ",
-        &short,
-        &answers::GROW_LENGTHS_SHORT,
-    );
-}
-
-pub fn show_tables() {
-    show_grow();
-    show_lengths();
+    show_lengths_short();
 }
