@@ -34,6 +34,8 @@ pub struct Legendre {
     b: Vec<f64>,
     p: Vec<f64>,
     dp: Vec<f64>,
+    /// Whether `p` holds the numbers of a latitude; else it holds zeros, and `dp` is empty.
+    computed: bool,
 }
 
 impl Legendre {
@@ -52,7 +54,7 @@ impl Legendre {
         let [_, _, p] = lengths::legendre_compute(nmax)?;
         let (mut a, mut b) = (vec![0.0; a], vec![0.0; b]);
         tables::legendre_new(nmax, &mut a, &mut b)?;
-        Ok(Legendre { nmax, a, b, p: vec![0.0; p], dp: Vec::new() })
+        Ok(Legendre { nmax, a, b, p: vec![0.0; p], dp: Vec::new(), computed: false })
     }
 
     /// Carry the table on to degree `nmax`: the recursion coefficients that it has are kept, and those of the degrees above are
@@ -104,9 +106,12 @@ impl Legendre {
         self.a.resize(a, 0.0);
         self.b.resize(b, 0.0);
         tables::legendre_grow(self.nmax, nmax, &mut self.a, &mut self.b)?;
-        // Nothing of the last latitude is wanted: let it go before the longer list is made, and copy nothing.
-        (self.p, self.dp) = (Vec::new(), Vec::new());
-        self.p = vec![0.0; p];
+        // Nothing of the last latitude is wanted. Where there was none since the table was made or grew, only the new places are cleared, so
+        // that steps of one degree do not cost a table each.
+        if self.computed {
+            (self.p, self.dp, self.computed) = (Vec::new(), Vec::new(), false);
+        }
+        self.p.resize(p, 0.0);
         self.nmax = nmax;
         Ok(())
     }
@@ -120,17 +125,19 @@ impl Legendre {
     pub fn compute(&mut self, lat: f64) {
         let Legendre { nmax, a, b, p, .. } = self;
         or_panic(tables::legendre_compute(Recursion { nmax: *nmax, a, b }, lat.sin_cos(), p));
+        self.computed = true;
     }
 
     /// Like [`compute`](Self::compute), and also fill `∂P̄nm/∂φ`. The derivative is a
     /// combination of `P̄n,m±1`, with no `1/cos φ` factor, so the poles bring no division by 0.
     pub fn compute_with_derivative(&mut self, lat: f64) {
-        let Legendre { nmax, a, b, p, dp } = self;
+        let Legendre { nmax, a, b, p, dp, .. } = self;
         if dp.is_empty() {
             let [.., length] = or_panic(lengths::legendre_compute_with_derivative(*nmax));
             *dp = vec![0.0; length];
         }
         or_panic(tables::legendre_compute_with_derivative(Recursion { nmax: *nmax, a, b }, lat.sin_cos(), p, dp));
+        self.computed = true;
     }
 
     /// `P̄nm` from the last [`compute`](Self::compute).
@@ -156,8 +163,8 @@ impl Legendre {
         or_panic(self.try_dp(n, m))
     }
 
-    /// [`dp`](Self::dp), refused instead of a panic: by [`Refusal::Length`] where no derivative has been computed, as there is
-    /// no table of them.
+    /// [`dp`](Self::dp), refused instead of a panic: by [`Refusal::Length`] where no derivative has been computed since the
+    /// table was made or grew, as there is no table of them.
     pub fn try_dp(&self, n: usize, m: usize) -> Result<f64, Refusal> {
         tables::legendre_entry(self.nmax, &self.dp, n, m)
     }

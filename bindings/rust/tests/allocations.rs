@@ -80,6 +80,10 @@ fn tables_rules_and_matrices() {
     for _ in 0..20 {
         assert!(again(|| leg.grow(leg.max_degree() + 1)) <= 3, "P̄nm and the two lists of recursion coefficients");
     }
+    // Steps with no latitude between make no list anew: each list is lengthened by doubling it.
+    let before = COUNT.get();
+    (0..100).for_each(|_| leg.grow(leg.max_degree() + 1));
+    assert!(COUNT.get() - before <= 3 * 4);
     assert_eq!(again(|| gauss_legendre(21)), 2, "nodes and weights");
     assert_eq!(again(|| symmetric_eigen(&[2.0, 1.0, 1.0, 2.0], 2)), 2, "values and vectors");
     assert_eq!(again(|| polar_cap(6, 0.5)), 29, "28 functions and their list");

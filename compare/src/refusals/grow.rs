@@ -26,6 +26,8 @@ fn cases() -> Vec<Case> {
     for nmax in [MAX_DEGREE, MAX_DEGREE + 1, ANY] {
         cases.extend([nmax, MAX_DEGREE + 1, ANY].map(|from| Case { sizes: vec![from, nmax], ..GROW.base() }));
     }
+    // N of 33 bits, of which the low ones are the base's.
+    cases.push(Case { sizes: vec![1, (1 << 32) + 3], ..GROW.base() });
     distinct(cases)
 }
 

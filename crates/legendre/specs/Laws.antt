@@ -15,7 +15,7 @@ use Rattle.storage.specs.Triangle.{tableSize, along, row-start-monotone}
 use Rattle.recursion.specs.Recursion.{aCell, bCell}
 use Rattle.legendre.specs.Grown.{made, grown, grown-made, made-front}
 
--- `new` with the lists a and b answers r and leaves a′ and b′: its promise
+-- `new` with the lists a and b answers r and leaves a′ and b′: its promise, which is proved by way of this record
 pub record New (N : ℕ) (a b : List Float) (r : Answer) (a′ b′ : List Float) : Type 0 where
   pub answers : r ≡ roomCheck N (length a) (length b)
   pub leaves-a : a′ ≡ after r (fill 0 (along aCell) (tableSize N) a) a
@@ -26,6 +26,16 @@ pub record Grow (n N : ℕ) (a b : List Float) (r : Answer) (a′ b′ : List Fl
   pub answers : r ≡ roomCheck N (length a) (length b)
   pub leaves-a : a′ ≡ after r (grown aCell n N a) a
   pub leaves-b : b′ ≡ after r (grown bCell n N b) b
+
+-- the two promises as the calls state them
+pub new-promise : {N : ℕ} {a b a′ b′ : List Float} {r : Answer} → New N a b r a′ b′
+    → (r ≡ roomCheck N (length a) (length b))
+    × ((a′ ≡ after r (fill 0 (along aCell) (tableSize N) a) a) × (b′ ≡ after r (fill 0 (along bCell) (tableSize N) b) b))
+new-promise w = (w .answers, (w .leaves-a, w .leaves-b))
+
+pub grow-promise : {n N : ℕ} {a b a′ b′ : List Float} {r : Answer} → Grow n N a b r a′ b′
+    → (r ≡ roomCheck N (length a) (length b)) × ((a′ ≡ after r (grown aCell n N a) a) × (b′ ≡ after r (grown bCell n N b) b))
+grow-promise w = (w .answers, (w .leaves-a, w .leaves-b))
 
 -- the tables of one degree are the front of those of any larger degree, bit by bit
 pub new-front : (N M : ℕ) {a b a′ b′ c d c′ d′ : List Float} → N ≤ M → New N a b Done a′ b′ → New M c d Done c′ d′

@@ -42,8 +42,8 @@ pub fn new(nmax: usize, a: &mut [f64], b: &mut [f64]) -> Answer
     }
 }
 
-// The rows of the recursion coefficients above degree `from` and up to degree nmax, behind those up to `from`, which are neither read nor written. Where
-// these are the rows of `new`, the lists are then as `new` would have left them.
+// The rows of the recursion coefficients above degree `from` and up to degree nmax, behind those up to `from`, which stay as they are. Where these are
+// the rows of `new`, the lists are then as `new` would have left them.
 pub fn grow(from: usize, nmax: usize, a: &mut [f64], b: &mut [f64]) -> Answer
     ensures { λ r. ⌜ r ≡ roomCheck nmax (length (now (a .entry))) (length (now (b .entry))) ⌝ }
     ensures { λ r. ⌜ now (a .exit) ≡ after r (grown aCell from nmax (now (a .entry))) (now (a .entry)) ⌝ }

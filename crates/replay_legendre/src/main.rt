@@ -44,7 +44,8 @@ fn show_grow(from: usize, nmax: usize, words: &[u64; 72]) {
     }
 }
 
-// Over the rows of a table, over marks, and where there is no row to write.
+// Over the rows of a table, over marks, and where there is no row to write: at the degree of the table, above it with room for the rows between, and
+// from degrees whose low 32 or 63 bits are a lower one's.
 fn show_grown() {
     show_grow(0, 4, &answers::GROW_ZERO);
     show_grow(1, 3, &answers::GROW_ONE);
@@ -52,6 +53,9 @@ fn show_grown() {
     show_grow(3, 4, &answers::GROW_THREE);
     show_grow(2, 4, &answers::GROW_MARKS);
     show_grow(4, 4, &answers::GROW_NONE);
+    show_grow(4, 2, &answers::GROW_NONE);
+    show_grow(4294967297, 4, &answers::GROW_NONE);
+    show_grow(9223372036854775809, 4, &answers::GROW_NONE);
     show_grow(18446744073709551615, 4, &answers::GROW_NONE);
 }
 
@@ -185,18 +189,18 @@ fn show_front(name: &[u8], table: &[f64], words: &[u64])
 }
 
 // A table that grows in two steps to degree 130: its last row, and P by all of its rows.
-fn show_large_grow(from: usize, by: usize, a: &mut [f64; 8646], b: &mut [f64; 8646]) {
+fn show_large_grow(from: usize, between: usize, a: &mut [f64; 8646], b: &mut [f64; 8646]) {
     match legendre::new(from, a, b) {
-        Answer::Done => show_first_step(from, by, a, b),
+        Answer::Done => show_first_step(from, between, a, b),
         Answer::Refused(_) => {
             io::write_all(1, b"new refused\n");
         }
     }
 }
 
-fn show_first_step(from: usize, by: usize, a: &mut [f64; 8646], b: &mut [f64; 8646]) {
-    match legendre::grow(from, by, a, b) {
-        Answer::Done => show_last_step(by, a, b),
+fn show_first_step(from: usize, between: usize, a: &mut [f64; 8646], b: &mut [f64; 8646]) {
+    match legendre::grow(from, between, a, b) {
+        Answer::Done => show_last_step(between, a, b),
         Answer::Refused(_) => {
             io::write_all(1, b"grow refused\n");
         }

@@ -1585,8 +1585,8 @@ pub const GAUSS_LEGENDRE_DUE: [u64; 40] = [
     0,
 ];
 
-// legendre_grow: 38 cases of 6 columns
-pub const LEGENDRE_GROW: [u64; 228] = [
+// legendre_grow: 39 cases of 6 columns
+pub const LEGENDRE_GROW: [u64; 234] = [
     0,
     0,
     1,
@@ -1815,10 +1815,16 @@ pub const LEGENDRE_GROW: [u64; 228] = [
     10,
     0,
     0,
+    1,
+    4294967299,
+    10,
+    10,
+    0,
+    0,
 ];
 
 // due of each: the refusal, and what changes
-pub const LEGENDRE_GROW_DUE: [u64; 76] = [
+pub const LEGENDRE_GROW_DUE: [u64; 78] = [
     0,
     0,
     0,
@@ -1886,6 +1892,8 @@ pub const LEGENDRE_GROW_DUE: [u64; 76] = [
     3,
     0,
     3,
+    0,
+    1,
     0,
     1,
     0,

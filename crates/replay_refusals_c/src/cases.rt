@@ -4677,8 +4677,8 @@ pub const NINE: [u64; 48] = [
 // due of each: the refusal, and what changes
 pub const NINE_DUE: [u64; 8] = [3, 0, 3, 0, 0, 909, 0, 909];
 
-// legendre_grow: 38 cases of 12 columns
-pub const LEGENDRE_GROW: [u64; 456] = [
+// legendre_grow: 39 cases of 12 columns
+pub const LEGENDRE_GROW: [u64; 468] = [
     0,
     0,
     1,
@@ -5135,10 +5135,22 @@ pub const LEGENDRE_GROW: [u64; 456] = [
     0,
     0,
     0,
+    1,
+    4294967299,
+    10,
+    10,
+    0,
+    0,
+    0,
+    0,
+    0,
+    0,
+    0,
+    0,
 ];
 
 // due of each: the refusal, and what changes
-pub const LEGENDRE_GROW_DUE: [u64; 76] = [
+pub const LEGENDRE_GROW_DUE: [u64; 78] = [
     0,
     0,
     0,
@@ -5206,6 +5218,8 @@ pub const LEGENDRE_GROW_DUE: [u64; 76] = [
     3,
     0,
     3,
+    0,
+    1,
     0,
     1,
     0,

@@ -3,6 +3,7 @@ use Rattle.storage.specs.Answers.{size-is}
 use Rattle.storage.specs.Checks.{room-passed}
 use Rattle.recursion.specs.Recursion.{aCell, bCell}
 use Rattle.legendre.specs.Grown.{grown-rows, grown-none}
+use Rattle.legendre.specs.Laws.{grow-promise}
 use native.Mathlib.Omega.{arith}
 use mathlib.Core.Path.{refl, sym, _∙_}
 use borrow.Author.Needs.{needs}
@@ -12,7 +13,7 @@ use Rattle.legendre.proofs.grow.Tie as tie
 returns : tie.Need-returns
 returns c =
     let ok = sym (c .before .enum-told .given .1) ∙ c .before .before .before .room-check .ensures in
-    (ok, (grown-none aCell _ _ _ (omega arith), grown-none bCell _ _ _ (omega arith)))
+    grow-promise (record { answers = ok; leaves-a = grown-none aCell _ _ _ (omega arith); leaves-b = grown-none bCell _ _ _ (omega arith) })
 
 a-table-requires : tie.Need-a-table-requires
 a-table-requires c κs =
@@ -29,7 +30,9 @@ b-table-requires c κs =
     omega arith
 
 returns-2 : tie.Need-returns-2
-returns-2 c = (sym (c .before .e .given .1) ∙ c .before .before .before .room-check .ensures, (refl, refl))
+returns-2 c =
+    let a = c .before .before .before .before .before .before .args in
+    grow-promise {n = a .from} (record { answers = sym (c .before .e .given .1) ∙ c .before .before .before .room-check .ensures; leaves-a = refl; leaves-b = refl })
 
 same-length : tie.Need-same-length
 same-length c = c .before .before .before .before .before .before .a-table .ensures .long
@@ -43,7 +46,12 @@ returns-3 c =
     let ok = sym (c .before .before .before .before .before .before .before .before .before .before .enum-told .given .1) ∙ c .before .before .before .before .before .before .before .before .before .before .before .before .room-check .ensures in
     let room = room-passed _ _ _ ok in
     let start = c .before .before .before .before .before .before .before .before .table-size .ensures ∙ size-is (a .from) (omega arith) in
-    (ok, (grown-rows aCell _ _ start (c .before .before .before .before .before .before .a-table .ensures), grown-rows bCell _ _ start (c .before .before .b-table .ensures)))
+    grow-promise (
+    record {
+      answers = ok;
+      leaves-a = grown-rows aCell _ _ start (c .before .before .before .before .before .before .a-table .ensures);
+      leaves-b = grown-rows bCell _ _ start (c .before .before .b-table .ensures);
+    })
 
 pub grow-spec : {M : Type 1} → statement M
 grow-spec =

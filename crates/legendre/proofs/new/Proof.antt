@@ -2,6 +2,7 @@
 use Rattle.storage.specs.Checks.{room-passed}
 use Rattle.storage.specs.Triangle.{row-start-zero, rows-from-zero}
 use Rattle.recursion.specs.Recursion.{aCell, bCell}
+use Rattle.legendre.specs.Laws.{new-promise}
 use native.Mathlib.Omega.{arith}
 use mathlib.Core.Path.{refl, sym, _∙_}
 use borrow.Author.Needs.{needs}
@@ -19,7 +20,8 @@ b-table-requires c κs =
     omega (arith, row-start-zero)
 
 returns : tie.Need-returns
-returns c = (sym (c .before .e .given .1) ∙ c .before .before .before .room-check .ensures, (refl, refl))
+returns c =
+    new-promise (record { answers = sym (c .before .e .given .1) ∙ c .before .before .before .room-check .ensures; leaves-a = refl; leaves-b = refl })
 
 same-length : tie.Need-same-length
 same-length c = c .before .before .before .before .before .before .a-table .ensures .long
@@ -28,10 +30,15 @@ same-length-2 : tie.Need-same-length-2
 same-length-2 c = c .before .before .b-table .ensures .long
 
 returns-2 : tie.Need-returns-2
-returns-2 c = (
-  sym (c .before .before .before .before .before .before .before .before .enum-told .given .1) ∙ c .before .before .before .before .before .before .before .before .before .before .room-check .ensures,
-  (rows-from-zero aCell _ (c .before .before .before .before .before .before .a-table .ensures) .is, rows-from-zero bCell _ (c .before .before .b-table .ensures) .is),
-)
+returns-2 c =
+    new-promise (
+    record {
+      answers =
+          sym (c .before .before .before .before .before .before .before .before .enum-told .given .1)
+          ∙ c .before .before .before .before .before .before .before .before .before .before .room-check .ensures;
+      leaves-a = rows-from-zero aCell _ (c .before .before .before .before .before .before .a-table .ensures) .is;
+      leaves-b = rows-from-zero bCell _ (c .before .before .b-table .ensures) .is;
+    })
 
 pub new-spec : {M : Type 1} → statement M
 new-spec =
