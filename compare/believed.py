@@ -94,7 +94,7 @@ def believed(source, named):
 
 
 # What helps the calls and has no requires either: numbers of answers, places, checks over sizes.
-HELPERS = re.compile(r"storage::|refusal::|(?:answer|refusal|index|model|reading|point|second|tide)_number$|tide_of|lacks_love|element_or_nan")
+HELPERS = re.compile(r"storage::|refusal::|(?:answer|refusal|index|model|reading|point|second|tide)_number$|tide_of|nodes_check|lacks_love|element_or_nan")
 
 PAGE = """# What a reader must believe
 

@@ -34,7 +34,8 @@ uint32_t geopotential_version(void);
 /* What a call answers. */
 enum geopotential_answer {
     GEOPOTENTIAL_DONE = 0,
-    GEOPOTENTIAL_SIZE = 1,   /* a degree above 2700 (Gauss 2701, matrix 512, cap 180), or more than 65,535 rows, longitudes or points */
+    GEOPOTENTIAL_SIZE = 1,   /* a degree above 2700 (Gauss 2701, matrix 512, cap 180, region 21), or more than 65,535 rows, longitudes, points or
+                              * nodes */
     GEOPOTENTIAL_LENGTH = 2, /* an input list has not exactly its length */
     GEOPOTENTIAL_SPACE = 3,  /* an output list is shorter than its answer, or a working list too short */
     GEOPOTENTIAL_PLACE = 4,  /* an entry outside the table */
@@ -197,7 +198,7 @@ uint32_t geopotential_analysis(uint32_t functional, const double *love, size_t l
                                size_t latitudes_len, const double *trig, size_t trig_len, double *work, size_t work_len, double *c,
                                size_t c_len, double *s, size_t s_len);
 
-/* ---- eigenvalues, caps and basins */
+/* ---- eigenvalues, caps, regions and basins */
 
 /* The eigenvalues of a symmetric n by n matrix, in no order, and its eigenvectors as columns. One that has not settled is still answered. a: n^2;
  * work: n^2 + 4n; values: n; vectors: n^2. Refused by 1 (n above 512), 2, 3. */
@@ -213,6 +214,35 @@ uint32_t geopotential_householder_ql(size_t n, const double *a, size_t a_len, do
 uint32_t geopotential_polar_cap(size_t lmax, double cosine, const double *weights, size_t weights_len, const double *latitudes,
                                 size_t latitudes_len, double *work, size_t work_len, double *orders, size_t orders_len,
                                 double *concentrations, size_t concentrations_len, double *vectors, size_t vectors_len);
+/* Regions of any shape, to degree L, up to 21. With k = L+1 there are k^2 functions: the basis P(l,m) cos(m lon), P(l,m) sin(m lon) has l outermost,
+ * the cosine before the sine and no sine at m = 0, so that (l,m) stands at place l^2 for m = 0, and else at l^2 + 2m - 1 (cosine) and l^2 + 2m
+ * (sine).
+ *
+ * The caller lends `nodes` nodes in colatitude, at most 65,535; 0 are allowed. Of each: weights, one number; latitudes, two, sine and cosine;
+ * marks, a byte: 0 skips the node, of which nothing is read, any other counts; s and c, 2L+1 numbers each, the integrals of cos(f lon) and
+ * sin(f lon) over the region's longitudes there, f = 0 to 2L. Any numbers do. For a region as the published Rust integrates it, between
+ * neighbouring breaks a < b in colatitude (its vertices' and extremes'), with the Gauss nodes x and weights w of the rule, in radians:
+ *     t = (x+1) pi/2,  theta = a + (b-a)(1-cos t)/2,  weight = w pi/2 (b-a) sin(t)/2 sin(theta),  latitude = pi/2 - theta,
+ * and over the longitudes lo to hi that the region has there, summed: s[0] = hi - lo, c[0] = 0, and for f above 0
+ *     s[f] = (sin(f hi) - sin(f lo))/f,  c[f] = (cos(f lo) - cos(f hi))/f;  mark 0 where it has none.
+ *
+ * The concentration matrix, k^4 numbers, row by row over the basis: 1/(4 pi) of the integral of the product of two functions over the region.
+ * It has the same bits at (i,j) and (j,i), whatever the lists hold, but that the bits of a NaN are free. Its trace is meant to be the Shannon
+ * number k^2 A/(4 pi), A the region's area: about so many functions are well concentrated. work: 3T with T = k(k+1)/2, left as it was. Refused by
+ * 1 (L above 21, or too many nodes), 2, 3. */
+uint32_t geopotential_concentration_matrix(size_t lmax, size_t nodes, const double *weights, size_t weights_len, const double *latitudes,
+                                           size_t latitudes_len, const uint8_t *marks, size_t marks_len, const double *s, size_t s_len,
+                                           const double *c, size_t c_len, double *work, size_t work_len, double *matrix,
+                                           size_t matrix_len);
+/* The region's Slepian functions, the eigenvectors of that matrix, best concentrated first: concentrations, k^2 eigenvalues, and for each
+ * function T numbers in cs (of the cosines) and T in ss (of the sines, +0.0 at m = 0), function after function, each as a table: k^2 T numbers
+ * each. Numbers of a function are used as a model's c and s with gm 1 and radius 1, tide unknown, no date. Concentrations cluster at 1 and 0:
+ * within a cluster functions are determined only up to rotations among themselves. work: 3T + 4k^4 + 5k^2. Refused by 1 (L above 21, or too many
+ * nodes), 2, 3. */
+uint32_t geopotential_region(size_t lmax, size_t nodes, const double *weights, size_t weights_len, const double *latitudes,
+                             size_t latitudes_len, const uint8_t *marks, size_t marks_len, const double *s, size_t s_len, const double *c,
+                             size_t c_len, double *work, size_t work_len, double *concentrations, size_t concentrations_len, double *cs,
+                             size_t cs_len, double *ss, size_t ss_len);
 /* A functional's average over a basin by its kernel, up to the smaller degree M. c, s: T; kc, ks: the same of kmax; love: M+1 or more for water
  * heights. Where kc[0] is at most 1 in size and the value is finite, the value times kc[0] lies within (T+5)/2^53 of the sum of the terms' sizes,
  * plus (3TF+1)/2^1074, of the exact sum of its terms: factor c kc and factor s ks of all T = (M+1)(M+2)/2 pairs up to M, each by
@@ -262,6 +292,10 @@ uint32_t geopotential_symmetric_eigen_lengths(size_t n, size_t *lengths, size_t 
 uint32_t geopotential_householder_ql_lengths(size_t n, size_t *lengths, size_t lengths_len);  /* a, work, values, vectors */
 /* weights, latitudes, work, orders, concentrations, vectors */
 uint32_t geopotential_polar_cap_lengths(size_t lmax, size_t *lengths, size_t lengths_len);
+/* weights, latitudes, marks, s, c, work, matrix */
+uint32_t geopotential_concentration_matrix_lengths(size_t lmax, size_t nodes, size_t *lengths, size_t lengths_len);
+/* weights, latitudes, marks, s, c, work, concentrations, cs, ss */
+uint32_t geopotential_region_lengths(size_t lmax, size_t nodes, size_t *lengths, size_t lengths_len);
 uint32_t geopotential_basin_average_lengths(size_t nmax, size_t kmax, size_t *lengths, size_t lengths_len); /* c, s, kc, ks, love */
 
 #ifdef __cplusplus

@@ -7,7 +7,7 @@
 
 #include "geopotential.h"
 
-#define LISTS 8
+#define LISTS 9
 #define CHECK(holds) check((holds) ? 1 : 0, #holds, __LINE__)
 
 static unsigned checks, failures;
@@ -312,6 +312,30 @@ static void caps(void)
     free(work), free(orders), free(concentrations), free(vectors);
 }
 
+/* The whole sphere: two Gauss nodes over all longitudes, and a third node that is skipped. */
+static void regions(void)
+{
+    size_t lengths[LISTS];
+    CHECK(geopotential_concentration_matrix_lengths(1, 3, lengths, LISTS) == GEOPOTENTIAL_DONE && lengths[3] == 9 && lengths[6] == 16);
+    const double node = sqrt(1.0 / 3), u = sqrt(2.0 / 3), turn = 2 * acos(-1.0);
+    const double weights[3] = {1, 1, NAN}, latitudes[6] = {-node, u, node, u, NAN, NAN};
+    const double s[9] = {turn, 0, 0, turn, 0, 0, NAN, NAN, NAN}, c[9] = {0, 0, 0, 0, 0, 0, NAN, NAN, NAN};
+    const uint8_t marks[3] = {1, 255, 0};
+    double *work = list(lengths[5]), *matrix = list(lengths[6]);
+    CHECK(geopotential_concentration_matrix(1, 3, weights, lengths[0], latitudes, lengths[1], marks, lengths[2], s, lengths[3], c,
+                                            lengths[4], work, lengths[5], matrix, lengths[6]) == GEOPOTENTIAL_DONE);
+    for (size_t i = 0; i < 16; i++) CHECK(fabs(matrix[i] - (i % 5 == 0)) < 1e-14);
+    CHECK(matrix[16] == 7 && work[0] == 7);
+    free(work), free(matrix);
+    CHECK(geopotential_region_lengths(1, 3, lengths, LISTS) == GEOPOTENTIAL_DONE && lengths[5] == 93 && lengths[7] == 12);
+    double *room = list(lengths[5]), *concentrations = list(lengths[6]), *cs = list(lengths[7]), *ss = list(lengths[8]);
+    CHECK(geopotential_region(1, 3, weights, lengths[0], latitudes, lengths[1], marks, lengths[2], s, lengths[3], c, lengths[4], room,
+                              lengths[5], concentrations, lengths[6], cs, lengths[7], ss, lengths[8]) == GEOPOTENTIAL_DONE);
+    for (size_t i = 0; i < 4; i++) CHECK(fabs(concentrations[i] - 1) < 1e-14 && ss[3 * i] == 0 && ss[3 * i + 1] == 0);
+    CHECK(concentrations[4] == 7 && cs[12] == 7 && ss[12] == 7 && room[93] == 7);
+    free(room), free(concentrations), free(cs), free(ss);
+}
+
 static void averages(void)
 {
     size_t lengths[LISTS];
@@ -339,6 +363,7 @@ int main(void)
     analysis();
     eigenvalues();
     caps();
+    regions();
     averages();
     printf("header: %u facts checked, %u do not hold\n", checks, failures);
     return failures != 0;

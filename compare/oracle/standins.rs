@@ -77,3 +77,14 @@ pub fn falling(x: f64, y: f64) -> Ordering {
 pub fn tricomi(n: usize) -> Vec<f64> {
     (0..n.div_ceil(2)).map(|i| (PI * (i as f64 + 0.75) / (n as f64 + 0.5)).cos()).collect()
 }
+
+/// What is lent for one node of a region: its weight, the sine and cosine of its latitude, a mark (0: empty, skipped), and the integrals of
+/// cos fλ and sin fλ over the region's longitudes there, f from 0 to 2L.
+#[derive(Clone)]
+pub struct Node {
+    pub weight: f64,
+    pub lat: (f64, f64),
+    pub mark: u8,
+    pub s: Vec<f64>,
+    pub c: Vec<f64>,
+}

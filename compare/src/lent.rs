@@ -1,6 +1,9 @@
 //! Lists that a caller lends: pairs for latitudes, cosines and sines for longitudes.
 
-use core::f64::consts::TAU;
+use core::f64::consts::{FRAC_PI_2, TAU};
+
+use oracle::slepian::{Intervals, colatitude_rule, longitude_integrals};
+use oracle::standins::Node;
 
 use crate::cases::Cases;
 
@@ -48,4 +51,16 @@ pub fn pattern(shift: usize, count: usize) -> Vec<f64> {
 /// Pairs end to end, as a call is lent them.
 pub fn flat(pairs: &[(f64, f64)]) -> Vec<f64> {
     pairs.iter().flat_map(|&(x, y)| [x, y]).collect()
+}
+
+/// The nodes of a region as the published file works them out: `count` of them on each panel between neighbouring breaks. A node where the
+/// region is absent is marked 0.
+pub fn nodes_of(lmax: usize, intervals: Intervals, breaks: &[f64], count: usize) -> Vec<Node> {
+    let rule = breaks.windows(2).flat_map(|panel| colatitude_rule(panel[0], panel[1], count));
+    rule.map(|(theta, weight)| {
+        let at = intervals(theta);
+        let (s, c) = longitude_integrals(lmax, &at);
+        Node { weight, lat: pair(FRAC_PI_2 - theta), mark: u8::from(!at.is_empty()), s, c }
+    })
+    .collect()
 }

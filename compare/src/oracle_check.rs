@@ -2,11 +2,11 @@
 
 use oracle::linalg::{householder_ql, symmetric_eigen};
 use oracle::slepian::{basin_average, basin_kernel, cap, concentration_matrix, polar_cap};
-use oracle::standins::{Number, Total, falling, tricomi};
+use oracle::standins::{Node, Number, Total, falling, tricomi};
 use oracle::{Coefficients, Functional, Legendre, gauss_grid, gauss_legendre, legendre};
 
 use crate::cases::{Cases, strange};
-use crate::lent::{analysis_orders, cap_pairs, orders, pair};
+use crate::lent::{analysis_orders, cap_pairs, nodes_of, orders, pair};
 use crate::second_partials::trace_share;
 use crate::tally::{Report, Tally, pattern};
 
@@ -152,9 +152,22 @@ fn slepian(tally: &mut Tally) {
     let shannon = 9.0 * (1.0 - x0) / 2.0;
     let sum = functions.iter().map(|f| if f.m == 0 { f.concentration } else { 2.0 * f.concentration }).total();
     tally.holds(close(sum, shannon), "the concentrations of a cap add up to the Shannon number");
-    let (intervals, breaks) = cap(0.0, 0.0, 40f64.to_radians());
-    let matrix = concentration_matrix(lmax, &intervals, &breaks, 40);
-    tally.holds((matrix.iter().step_by(10).copied().total() - shannon).abs() < 1e-6, "the region of a cap has the same trace");
-    let kernel = basin_kernel(lmax, &intervals, &breaks, 40);
-    tally.holds(same(kernel.c(0, 0), matrix[0]), "a kernel is the first row of its matrix");
+    // About the pole, where no sine has an integral, and about a point.
+    for (colat, lon) in [(0.0, 0.0), (0.8, 1.0)] {
+        let (intervals, breaks) = cap(colat, lon, 40f64.to_radians());
+        matrix_and_kernel(tally, lmax, &nodes_of(lmax, &intervals, &breaks, 40), shannon);
+    }
+}
+
+fn matrix_and_kernel(tally: &mut Tally, lmax: usize, nodes: &[Node], shannon: f64) {
+    let n = (lmax + 1).pow(2);
+    let matrix = concentration_matrix(lmax, nodes);
+    tally.holds((matrix.iter().step_by(n + 1).copied().total() - shannon).abs() < 1e-6, "the region of a cap has the same trace");
+    let kernel = basin_kernel(lmax, nodes);
+    let entry = |place: usize| matrix[place * n];
+    let agrees = |l: usize, m: usize| match m {
+        0 => same(kernel.c(l, 0), entry(l * l)),
+        _ => same(kernel.c(l, m), entry(l * l + 2 * m - 1)) && same(kernel.s(l, m), entry(l * l + 2 * m)),
+    };
+    tally.holds((0..=lmax).all(|l| (0..=l).all(|m| agrees(l, m))), "a kernel is the first row of its matrix");
 }

@@ -1,10 +1,10 @@
-//! Symmetric matrices, and polar caps.
+//! Symmetric matrices, polar caps and regions.
 
 use oracle::standins::tricomi;
 
 use crate::cases::Cases;
-use crate::inputs::{angle, fault};
-use crate::lent::cap_pairs;
+use crate::inputs::{angle, fault, field_fault};
+use crate::lent::{cap_pairs, nodes_of};
 use crate::tally::{Report, Tally, shown};
 
 pub fn compare(report: &mut Report) {
@@ -14,6 +14,7 @@ pub fn compare(report: &mut Report) {
     report
         .call("householder_ql", |tally, cases| solvers(tally, cases, geopotential::linalg::householder_ql, oracle::linalg::householder_ql));
     report.call("polar_cap", caps);
+    report.call("concentration_matrix, region", regions);
 }
 
 /// A solver, ours or the oracle's.
@@ -68,4 +69,46 @@ fn function_fault(ours: &geopotential::slepian::Slepian, oracle: &oracle::slepia
         .then(|| format!("order {}, due {}", ours.m, oracle.m))
         .or_else(|| fault("concentration", &[ours.concentration], &[oracle.concentration]))
         .or_else(|| fault("coefficients", &ours.coefficients, &oracle.coefficients))
+}
+
+/// Caps about any point, drawn basins, and intervals of any numbers; matrix and functions by nodes that are kept, too.
+fn regions(tally: &mut Tally, cases: &mut Cases) {
+    let mut degrees: Vec<usize> = cases.times(2_000).map(|_| cases.below(6) as usize).collect();
+    degrees.extend([8, 10, 21]);
+    for lmax in degrees {
+        let count = cases.below(7) as usize;
+        let (cap, breaks) = geopotential::slepian::cap(angle(cases), angle(cases), 1.6 * cases.fraction());
+        tally.call(region_fault(lmax, &cap, &breaks, count), || format!("L {lmax}, a cap, breaks {breaks:?}, {count} nodes"));
+        let vertices: Vec<(f64, f64)> = (0..3 + cases.below(6)).map(|_| (6.0 * cases.fraction(), 3.0 * cases.fraction() - 1.5)).collect();
+        let (basin, breaks) = oracle::slepian::polygon(&vertices);
+        tally.call(region_fault(lmax, &basin, &breaks, count), || format!("L {lmax}, vertices {vertices:?}, {count} nodes"));
+        let (ends, breaks): (Vec<f64>, Vec<f64>) = ((0..4).map(|_| cases.number()).collect(), (0..3).map(|_| angle(cases)).collect());
+        let any = move |theta: f64| if theta > ends[3] { vec![] } else { vec![(ends[0], ends[1]), (ends[1], ends[2])] };
+        tally.call(region_fault(lmax, &any, &breaks, count), || format!("L {lmax}, any numbers, breaks {breaks:?}, {count} nodes"));
+    }
+}
+
+/// What is wrong with a region's matrix and its functions.
+fn region_fault(lmax: usize, intervals: geopotential::slepian::Intervals, breaks: &[f64], count: usize) -> Option<String> {
+    let nodes = nodes_of(lmax, intervals, breaks, count);
+    let matrix = geopotential::slepian::concentration_matrix(lmax, intervals, breaks, count);
+    let ours = geopotential::slepian::region(lmax, intervals, breaks, count);
+    let oracle = oracle::slepian::region(lmax, &nodes);
+    let kept = geopotential::slepian::Nodes::new(lmax, intervals, breaks, count);
+    fault("matrix", &matrix, &oracle::slepian::concentration_matrix(lmax, &nodes))
+        .or_else(|| fault("matrix of kept nodes", &kept.concentration_matrix(), &matrix))
+        .or_else(|| functions_fault("region", &ours, &oracle))
+        .or_else(|| functions_fault("region of kept nodes", &kept.region(), &oracle))
+}
+
+/// What is wrong with a region's functions.
+fn functions_fault(name: &str, ours: &[geopotential::slepian::RegionSlepian], oracle: &[oracle::slepian::RegionSlepian]) -> Option<String> {
+    let missing = (ours.len() != oracle.len()).then(|| format!("{} functions, due {}", ours.len(), oracle.len()));
+    let fault = missing.or_else(|| {
+        ours.iter().zip(oracle).find_map(|(ours, oracle)| {
+            fault("concentration", &[ours.concentration], &[oracle.concentration])
+                .or_else(|| field_fault(&ours.coefficients, &oracle.coefficients, None))
+        })
+    });
+    fault.map(|fault| format!("{name}: {fault}"))
 }

@@ -39,7 +39,7 @@ impl Input {
 macro_rules! program {
     ($name:ident, $library:ident) => {
         mod $name {
-            use $library::slepian::basin_average;
+            use $library::slepian::{basin_average, cap, concentration_matrix};
             use $library::{Coefficients, Functional, Legendre, Partials, SecondPartials, gauss_grid, gauss_legendre};
 
             use super::Input;
@@ -139,6 +139,15 @@ macro_rules! program {
                 functionals(input).into_iter().flat_map(|f| numbers(&analysis(f))).collect()
             }
 
+            /// The matrix of a cap about any point, and of a band of any longitudes; their functions go by another `hypot`.
+            pub fn matrix(input: &Input) -> Vec<f64> {
+                let lmax = input.nmax % 8;
+                let (intervals, breaks) = cap(3.0 * input.r.fract().abs(), input.gm, 1.5 * input.radius.fract().abs());
+                let (lo, hi) = (input.c[0], input.s[0]);
+                let band = concentration_matrix(lmax, &|theta| if theta < 1.0 { vec![(lo, hi)] } else { vec![] }, &[0.3, 0.9, 1.7], 3);
+                concentration_matrix(lmax, &intervals, &breaks, 2 + input.cut % 5).into_iter().chain(band).collect()
+            }
+
             pub fn average(input: &Input) -> Vec<f64> {
                 let field = field(input);
                 functionals(input).iter().map(|f| basin_average(&field, &field.truncated(input.cut), f, input.r)).collect()
@@ -174,6 +183,7 @@ const PARTS: &[(&str, Program, Program)] = &[
     ("tensor, without tan", |input| without_tan(ours::tensor(input)), |input| without_tan(theirs::tensor(input))),
     ("analysis", ours::analysis, theirs::analysis),
     ("basin_average", ours::average, theirs::average),
+    ("concentration_matrix", ours::matrix, theirs::matrix),
 ];
 
 /// Every zero as +0.

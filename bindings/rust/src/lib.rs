@@ -1,6 +1,6 @@
 //! Spherical-harmonic gravity fields from degree 0 to 2700: the calls of the published crate `geopotential`
 //! (FusionVault/physica, commit 52f1dbc835, MIT), answered by a library in which every one of them is proved but [`gauss_grid`],
-//! whose angles, with their `asin`, are Rust alone.
+//! whose angles, with their `asin`, are Rust alone, and the nodes of regions ([`slepian::Nodes`], [`slepian::cap`]).
 //!
 //! Names, paths, signatures and most of the doc comments are the published crate's, so a program written against it compiles when
 //! one line of its `Cargo.toml` is changed. Angles are radians. This crate works out sines and cosines by the standard library,
@@ -27,20 +27,21 @@
 //! # Added
 //!
 //! [`Coefficients::partials_along`] and [`Coefficients::second_partials_along`] take many points at once, [`Legendre::grow`] carries
-//! a table on to a higher degree, [`model_file`] keeps a field in a file with every bit of it, [`Coefficients::date`] is the day that
-//! a field is of, and [`Refusal`] says why a call was refused.
+//! a table on to a higher degree, [`slepian::Nodes`] keeps the nodes of a region for several calls, [`model_file`] keeps a field in a
+//! file with every bit of it, [`Coefficients::date`] is the day that a field is of, and [`Refusal`] says why a call was refused.
 //!
 //! # Not ported
 //!
 //! Of the published crate: `compute_with_second_derivative` and `ddp` of [`Legendre`]; `geopotential` and `deflections` of
-//! [`Partials`]; `to_tide_system` and `TimeVariable`; `gauss` and `cholesky*` of [`linalg`]; regions, polygons and `basin_kernel`
+//! [`Partials`]; `to_tide_system` and `TimeVariable`; `gauss` and `cholesky*` of [`linalg`]; `polygon` and `basin_kernel`
 //! of [`slepian`]; the modules `normal` and `field`; the feature `serde`.
 //!
 //! # Memory
 //!
 //! A call allocates its answer and nothing else: working lists belong to the thread, grow to what its largest call needs and are
 //! kept until it ends (4T numbers for partials and 5T for second partials, T = (N+1)(N+2)/2; a grid keeps 2N + 2 numbers for each
-//! longitude).
+//! longitude, a region 3T + 4(L+1)⁴ + 5(L+1)² beside its functions' numbers). Only [`slepian::concentration_matrix`] and
+//! [`slepian::region`] also allocate their nodes (five lists and a Gauss rule), which [`slepian::Nodes`] keeps for several calls.
 
 #![deny(unsafe_code)]
 
@@ -48,6 +49,7 @@
 mod calls;
 #[allow(unsafe_code)]
 mod ffi;
+mod nodes;
 mod trigonometry;
 mod workspace;
 

@@ -6,7 +6,7 @@ use core::fmt;
 #[derive(Clone, Copy, Debug, PartialEq, Eq, Hash)]
 #[non_exhaustive]
 pub enum Refusal {
-    /// A degree above 2700 (Gauss rule 2701, matrix 512, cap 180), or more than 65,535 rows, longitudes or points.
+    /// A degree above 2700 (Gauss rule 2701, matrix 512, cap 180, region 21), or more than 65,535 rows, longitudes, points or nodes.
     Size,
     /// A list has not exactly the stated length.
     Length,
@@ -61,9 +61,10 @@ impl Refusal {
     /// Its name and its meaning.
     fn texts(self) -> (&'static str, &'static str) {
         match self {
-            Refusal::Size => {
-                ("SIZE", "a degree above 2700 (Gauss rule 2701, matrix 512, cap 180), or more than 65,535 rows, longitudes or points")
-            }
+            Refusal::Size => (
+                "SIZE",
+                "a degree above 2700 (Gauss rule 2701, matrix 512, cap 180, region 21), or more than 65,535 rows, longitudes, points or nodes",
+            ),
             Refusal::Length => ("LENGTH", "a list has not exactly the stated length"),
             Refusal::Space => ("SPACE", "a list for an answer or for working numbers is too short"),
             Refusal::Place => ("PLACE", "an entry outside its table"),

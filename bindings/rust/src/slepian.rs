@@ -8,9 +8,11 @@
 //! `D = (1/4π)∫_R P̄lm P̄l′m′ T_m T_m′ dΩ` is the region's concentration matrix. Its eigenvectors
 //! are the Slepian functions, and its eigenvalues sum to the Shannon number `(L + 1)²A/4π`,
 //! about how many of them are well concentrated. For a [`polar_cap`] the matrix is one block
-//! per order and Grünbaum's commuting matrix gives clean eigenvectors. The first row of `D` is the
-//! region's basin kernel, by which [`basin_average`] averages a field over it (Swenson & Wahr
-//! 2002, Eqs. 17–18).
+//! per order and Grünbaum's commuting matrix gives clean eigenvectors; any other [`region`] is
+//! integrated the way Simons' `kernelc` does it, exactly in longitude and by Gauss–Legendre in
+//! colatitude, here with the nodes clustered at the region's vertex colatitudes. The first row of
+//! `D` is the region's basin kernel, by which [`basin_average`] averages a field over it (Swenson
+//! & Wahr 2002, Eqs. 17–18).
 //!
 //! ```
 //! use geopotential::slepian::polar_cap;
@@ -22,8 +24,11 @@
 //! assert!(cap[0].concentration > 1.0 - 1e-7);
 //! ```
 
-use crate::calls::matrices::Ranked;
+use core::f64::consts::{PI, TAU};
+
+use crate::calls::matrices::{Ranked, RankedTables};
 use crate::calls::{fields, lengths, matrices};
+pub use crate::nodes::{Intervals, Nodes};
 use crate::refusal::{Refusal, or_panic};
 use crate::trigonometry::put_latitudes;
 use crate::workspace;
@@ -90,6 +95,142 @@ fn functions(lmax: usize, Ranked { orders, concentrations, vectors }: &Ranked) -
             Slepian { m, concentration, coefficients: coefficients.to_vec() }
         })
         .collect()
+}
+
+/// One Slepian function of any region: its concentration and its coefficients, meant to be a unit vector
+/// in the crate's normalization (`(1/4π)∫g² dΩ = 1`), held as a field with unit `GM` and radius
+/// so that it can be synthesized and compared with any [`Coefficients`] by their dot product.
+#[derive(Clone, Debug, PartialEq)]
+pub struct RegionSlepian {
+    /// The fraction of its energy inside the region, meant to be between 0 and 1.
+    pub concentration: f64,
+    /// Its coefficients `C̄lm`, `S̄lm` to the degree the region was built for.
+    pub coefficients: Coefficients,
+}
+
+/// The concentration matrix `D` of a region to degree `lmax`, row-major over the basis `(l, m,
+/// cos)`, `(l, m, sin)` for `l ≤ L`, `m ≤ l` (the sine for `m > 0` only), `l` outermost:
+/// `D_ij = (1/4π)∫_R P̄_i P̄_j T_i T_j dΩ`, integrated exactly in longitude and with `nodes`
+/// clustered Gauss–Legendre points in colatitude on each panel between consecutive `breaks`,
+/// which should include every colatitude where the region's outline has a vertex or an extremum
+/// (Simons' `kernelc`, with the panels added). Its trace is meant to be the Shannon number `(L + 1)²A/4π` and
+/// its first entry the fractional area `A/4π`. It is symmetric bit for bit (the bits of a NaN are free).
+///
+/// ```
+/// use geopotential::slepian::{cap, concentration_matrix};
+///
+/// let (intervals, breaks) = cap(1.2, 0.3, 0.5);
+/// let matrix = concentration_matrix(4, &intervals, &breaks, 30);
+/// let (area, shannon) = (matrix[0], (0..25).map(|i| matrix[26 * i]).sum::<f64>());
+/// assert!((area - (1.0 - 0.5f64.cos()) / 2.0).abs() < 1e-12);
+/// assert!((shannon - 25.0 * area).abs() < 1e-12);
+/// ```
+///
+/// # Panics
+/// If `lmax > 21`, there are more than 65,535 nodes on all panels, or more than 2701 on one.
+#[track_caller]
+pub fn concentration_matrix(lmax: usize, intervals: Intervals, breaks: &[f64], nodes: usize) -> Vec<f64> {
+    or_panic(try_concentration_matrix(lmax, intervals, breaks, nodes))
+}
+
+/// [`concentration_matrix`], refused instead of a panic.
+pub fn try_concentration_matrix(lmax: usize, intervals: Intervals, breaks: &[f64], nodes: usize) -> Result<Vec<f64>, Refusal> {
+    Nodes::try_new(lmax, intervals, breaks, nodes)?.try_concentration_matrix()
+}
+
+/// The Slepian functions to degree `lmax` of a region ([`concentration_matrix`] has the
+/// arguments), best concentrated first. Their eigenvalues cluster at 1 and 0, so vectors within
+/// a cluster are determined only up to rotations among themselves; the sum of the top `N`
+/// functions' projections, which is what a regional estimate uses, is not affected.
+///
+/// ```
+/// use geopotential::slepian::{cap, region};
+///
+/// // A cap of 40° about a point off the pole, at degree 6: 5.7 functions' worth of 49.
+/// let (intervals, breaks) = cap(1.2, 0.3, 40f64.to_radians());
+/// let functions = region(6, &intervals, &breaks, 30);
+/// assert_eq!(functions.len(), 49);
+/// assert!(functions[0].concentration > 0.97 && functions[48].concentration.abs() < 1e-9);
+/// ```
+///
+/// # Panics
+/// If `lmax > 21`, there are more than 65,535 nodes on all panels, or more than 2701 on one.
+#[track_caller]
+pub fn region(lmax: usize, intervals: Intervals, breaks: &[f64], nodes: usize) -> Vec<RegionSlepian> {
+    or_panic(try_region(lmax, intervals, breaks, nodes))
+}
+
+/// [`region`], refused instead of a panic.
+pub fn try_region(lmax: usize, intervals: Intervals, breaks: &[f64], nodes: usize) -> Result<Vec<RegionSlepian>, Refusal> {
+    Nodes::try_new(lmax, intervals, breaks, nodes)?.try_region()
+}
+
+impl Nodes {
+    /// The region's concentration matrix, as [`concentration_matrix`] answers it.
+    pub fn concentration_matrix(&self) -> Vec<f64> {
+        or_panic(self.try_concentration_matrix())
+    }
+
+    /// Not refused: nodes of a size that is have not been made.
+    fn try_concentration_matrix(&self) -> Result<Vec<f64>, Refusal> {
+        let [.., work, matrix] = lengths::concentration_matrix(self.lmax, self.len())?;
+        let mut out = vec![0.0; matrix];
+        workspace::lend(|lists| matrices::concentration_matrix(self, lists.work.front(work), &mut out))?;
+        Ok(out)
+    }
+
+    /// The region's Slepian functions, as [`region`] answers them.
+    pub fn region(&self) -> Vec<RegionSlepian> {
+        or_panic(self.try_region())
+    }
+
+    /// Not refused either.
+    fn try_region(&self) -> Result<Vec<RegionSlepian>, Refusal> {
+        let [.., work, concentrations, cs, ss] = lengths::region(self.lmax, self.len())?;
+        workspace::lend(|lists| {
+            let mut ranked = RankedTables {
+                concentrations: lists.concentrations.front(concentrations),
+                cs: lists.numbers.front(cs),
+                ss: lists.sines.front(ss),
+            };
+            matrices::region(self, lists.work.front(work), &mut ranked)?;
+            self.functions(&ranked)
+        })
+    }
+
+    /// The functions, each with its own part of the tables that stand end to end.
+    fn functions(&self, RankedTables { concentrations, cs, ss }: &RankedTables) -> Result<Vec<RegionSlepian>, Refusal> {
+        let [c, s] = lengths::zeros(self.lmax)?;
+        let tables = cs.chunks_exact(c).zip(ss.chunks_exact(s));
+        let function = |(&concentration, (cs, ss)): (&f64, (&[f64], &[f64]))| {
+            let mut coefficients = Coefficients::with_lists(1.0, 1.0, self.lmax, c, s);
+            coefficients.c.copy_from_slice(cs);
+            coefficients.s.copy_from_slice(ss);
+            RegionSlepian { concentration, coefficients }
+        };
+        Ok(concentrations.iter().zip(tables).map(function).collect())
+    }
+}
+
+/// The longitude intervals of a spherical cap of angular `radius` centred at colatitude `colat`
+/// and longitude `lon` (radians), and the breaks its integration needs: the cap's two colatitude
+/// extremes and, when it holds a pole, the colatitude where it stops covering every longitude.
+pub fn cap(colat: f64, lon: f64, radius: f64) -> (impl Fn(f64) -> Vec<(f64, f64)> + use<>, Vec<f64>) {
+    let intervals = move |theta: f64| {
+        let q = (radius.cos() - theta.cos() * colat.cos()) / (theta.sin() * colat.sin()).max(f64::MIN_POSITIVE);
+        if q <= -1.0 {
+            vec![(0.0, TAU)]
+        } else if q >= 1.0 {
+            vec![]
+        } else {
+            let half = q.acos();
+            vec![(lon - half, lon + half)]
+        }
+    };
+    let mut breaks = vec![(colat - radius).max(0.0), (colat - radius).abs(), (colat + radius).min(PI), (TAU - colat - radius).min(PI)];
+    breaks.sort_by(f64::total_cmp);
+    breaks.dedup();
+    (intervals, breaks)
 }
 
 /// The mean of a `functional` of `field` over the region of `kernel` at radius `r`:

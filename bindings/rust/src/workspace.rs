@@ -62,11 +62,14 @@ pub struct Workspace {
     pub longitudes: GridLongitudes,
     /// Working numbers of a call.
     pub work: List,
-    /// Numbers of a call whose answer is a list of records: partials of points, vectors of a cap.
+    /// Numbers of a call whose answer is a list of records: partials of points, vectors of a cap, cosine coefficients of a region's
+    /// functions.
     pub numbers: List,
+    /// Sine coefficients of a region's functions.
+    pub sines: List,
     /// Orders of a cap's functions.
     pub orders: List,
-    /// Concentrations of a cap's functions.
+    /// Concentrations of a cap's or a region's functions.
     pub concentrations: List,
     /// Bit patterns of a model's C̄nm.
     pub c_bits: List<u64>,

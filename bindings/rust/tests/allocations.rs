@@ -5,7 +5,7 @@ use std::cell::Cell;
 use std::hint::black_box;
 
 use geopotential::linalg::symmetric_eigen;
-use geopotential::slepian::{basin_average, polar_cap};
+use geopotential::slepian::{Nodes, basin_average, cap, polar_cap};
 use geopotential::{Coefficients, Functional, Legendre, gauss_grid, gauss_legendre, model_file};
 
 /// The system's allocator, counting each thread's allocations.
@@ -87,4 +87,8 @@ fn tables_rules_and_matrices() {
     assert_eq!(again(|| gauss_legendre(21)), 2, "nodes and weights");
     assert_eq!(again(|| symmetric_eigen(&[2.0, 1.0, 1.0, 2.0], 2)), 2, "values and vectors");
     assert_eq!(again(|| polar_cap(6, 0.5)), 29, "28 functions and their list");
+    let (intervals, breaks) = cap(0.9, 0.0, 0.4);
+    let nodes = Nodes::new(2, &intervals, &breaks, 6);
+    assert_eq!(again(|| nodes.concentration_matrix()), 1);
+    assert_eq!(again(|| nodes.region()), 19, "c and s of 9 functions, and their list");
 }

@@ -3,7 +3,7 @@
 use std::panic::{self, AssertUnwindSafe};
 
 use geopotential::linalg::{householder_ql, symmetric_eigen};
-use geopotential::slepian::{basin_average, polar_cap};
+use geopotential::slepian::{Nodes, basin_average, cap, concentration_matrix, polar_cap, region};
 use geopotential::{Coefficients, Functional, Legendre, Refusal, gauss_grid, gauss_legendre};
 
 /// That a call panics with the line of a refusal.
@@ -29,6 +29,10 @@ fn sizes() {
     panics(Refusal::Size, || symmetric_eigen(&[], 513));
     panics(Refusal::Size, || householder_ql(&[], 513));
     panics(Refusal::Size, || polar_cap(181, 0.5));
+    let (intervals, breaks) = cap(0.5, 0.0, 0.2);
+    panics(Refusal::Size, || concentration_matrix(22, &intervals, &breaks, 3));
+    panics(Refusal::Size, || region(22, &intervals, &breaks, 3));
+    panics(Refusal::Size, || Nodes::new(1, &intervals, &breaks, 2702));
 }
 
 #[test]

@@ -1,7 +1,7 @@
 //! What a program that was written against the published crate relies on.
 
 use geopotential::linalg::{householder_ql, symmetric_eigen};
-use geopotential::slepian::{Slepian, basin_average, polar_cap};
+use geopotential::slepian::{RegionSlepian, Slepian, basin_average, cap, concentration_matrix, polar_cap, region};
 use geopotential::{Coefficients, Functional, Legendre, Partials, TideSystem, gauss_grid, gauss_legendre};
 
 /// Numbers of the size that a gravity model has.
@@ -103,6 +103,36 @@ fn caps_come_best_concentrated_first() {
         assert_eq!(coefficients.len(), 8 - m);
         assert!((coefficients.iter().map(|c| c * c).sum::<f64>() - 1.0).abs() < 1e-13);
     }
+}
+
+#[test]
+fn regions_come_best_concentrated_first() {
+    let (intervals, breaks) = cap(0.0, 0.0, 0.7);
+    let functions: Vec<RegionSlepian> = region(6, &intervals, &breaks, 40);
+    assert_eq!(functions.len(), 49);
+    assert!(functions.windows(2).all(|pair| pair[0].concentration >= pair[1].concentration));
+    // A cap about the pole has the concentrations of the polar cap, those of an order above 0 twice.
+    let mut twice: Vec<f64> = polar_cap(6, 0.7).iter().flat_map(|f| vec![f.concentration; if f.m == 0 { 1 } else { 2 }]).collect();
+    twice.sort_by(|a, b| b.total_cmp(a));
+    assert!(functions.iter().zip(&twice).all(|(f, due)| (f.concentration - due).abs() < 1e-7));
+    for RegionSlepian { coefficients, .. } in &functions {
+        assert_eq!((coefficients.gm, coefficients.radius, coefficients.max_degree(), coefficients.date), (1.0, 1.0, 6, None));
+        assert_eq!(coefficients.s(5, 0).to_bits(), 0);
+        let energy: f64 = (0..=6)
+            .flat_map(|l| (0..=l).map(move |m| (l, m)))
+            .map(|(l, m)| coefficients.c(l, m).powi(2) + coefficients.s(l, m).powi(2))
+            .sum();
+        assert!((energy - 1.0).abs() < 1e-12);
+    }
+    let matrix = concentration_matrix(6, &intervals, &breaks, 40);
+    assert!((0..49 * 49).all(|k| matrix[k].to_bits() == matrix[k % 49 * 49 + k / 49].to_bits()));
+}
+
+#[test]
+fn an_interval_may_call_the_crate() {
+    let field = field(2);
+    let inside = move |theta: f64| if field.partials(7e6, 1.5 - theta, 0.0).v > 0.0 { vec![(0.0, 1.0)] } else { vec![] };
+    assert_eq!(concentration_matrix(1, &inside, &[0.2, 0.9], 3).len(), 16);
 }
 
 #[test]

@@ -1,7 +1,7 @@
 //! Every refusal that a caller can meet, through the twin that answers it.
 
 use geopotential::linalg::{try_householder_ql, try_symmetric_eigen};
-use geopotential::slepian::{try_basin_average, try_polar_cap};
+use geopotential::slepian::{Nodes, cap, region, try_basin_average, try_concentration_matrix, try_polar_cap, try_region};
 use geopotential::{Coefficients, Functional, Legendre, MAX_DEGREE, Refusal, try_gauss_grid, try_gauss_legendre};
 
 /// Degrees that no call takes; the last two would wrap around.
@@ -24,6 +24,43 @@ fn degrees_above_the_limit() {
     }
     assert!(Coefficients::try_zeros(1.0, 1.0, MAX_DEGREE).is_ok());
     assert!(try_gauss_grid(64).is_ok());
+}
+
+#[test]
+fn regions_above_their_limits() {
+    // No interval is asked for where the sizes are refused.
+    let unasked = |_: f64| -> Vec<(f64, f64)> { unreachable!("asked for an interval") };
+    for lmax in [22, 2700, (1 << 32) + 1, usize::MAX] {
+        assert_eq!(try_concentration_matrix(lmax, &unasked, &[0.0, 1.0], 1), Err(Refusal::Size));
+        assert_eq!(try_region(lmax, &unasked, &[0.0, 1.0], 1), Err(Refusal::Size));
+    }
+    let many: Vec<f64> = (0..=26).map(|k| 0.1 * k as f64).collect();
+    for (breaks, nodes) in [(&many[..], 2521), (&many[..2], 2702), (&many[..3], usize::MAX), (&many[..], 1 << 60)] {
+        assert_eq!(Nodes::try_new(0, &unasked, breaks, nodes).err(), Some(Refusal::Size), "{nodes}");
+    }
+    let (intervals, _) = cap(1.3, 0.0, 3.0);
+    assert_eq!(Nodes::new(0, &intervals, &many, 2520).len(), 26 * 2520);
+    assert!(Nodes::try_new(21, &intervals, &many[..2], 2701).is_ok());
+}
+
+#[test]
+fn regions_without_nodes() {
+    let nothing = |_: f64| vec![];
+    for nodes in [Nodes::new(2, &nothing, &[], 5), Nodes::new(2, &nothing, &[0.3], 5000), Nodes::new(2, &nothing, &[0.3, 0.6], 0)] {
+        assert!(nodes.is_empty() && nodes.max_degree() == 2);
+        assert_eq!(nodes.concentration_matrix(), [0.0; 81]);
+    }
+    // Nodes that are skipped alone: the functions are those of the basis, in its order.
+    let functions = region(1, &nothing, &[0.3, 0.6], 4);
+    let of = |k: usize| {
+        (
+            functions[k].coefficients.c(0, 0),
+            functions[k].coefficients.c(1, 0),
+            functions[k].coefficients.c(1, 1),
+            functions[k].coefficients.s(1, 1),
+        )
+    };
+    assert_eq!([of(0), of(1), of(2), of(3)], [(1.0, 0.0, 0.0, 0.0), (0.0, 1.0, 0.0, 0.0), (0.0, 0.0, 1.0, 0.0), (0.0, 0.0, 0.0, 1.0)]);
 }
 
 #[test]

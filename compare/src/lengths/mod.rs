@@ -6,7 +6,7 @@ use crate::guarded::Guarded;
 use crate::refusal::{KIND, MAX_DEGREE, SHORT, SIZE, SPACE, TIDE, fault, pairs};
 use crate::tally::{Report, Tally};
 
-/// The most rows, longitudes or points.
+/// The most rows, longitudes, points or nodes.
 const MAX_LINES: usize = 65_535;
 
 /// An entry by how many sizes it takes.
@@ -85,6 +85,23 @@ fn cap(sizes: &[usize]) -> Vec<u128> {
     vec![k, 2 * k, 3 * t + 4 * k * k + 5 * k + (t + t + vectors), t, t, vectors]
 }
 
+/// The five lists of the nodes of a region.
+fn nodes(sizes: &[usize]) -> Vec<u128> {
+    let (integrals, nodes) = (2 * rows(sizes[0]) - 1, sizes[1] as u128);
+    vec![nodes, 2 * nodes, nodes, integrals * nodes, integrals * nodes]
+}
+
+fn concentration_matrix(sizes: &[usize]) -> Vec<u128> {
+    let functions = rows(sizes[0]).pow(2);
+    [nodes(sizes), vec![3 * pairs(sizes[0]), functions * functions]].concat()
+}
+
+fn region(sizes: &[usize]) -> Vec<u128> {
+    let (t, functions) = (pairs(sizes[0]), rows(sizes[0]).pow(2));
+    let work = 3 * t + 4 * functions * functions + 5 * functions;
+    [nodes(sizes), vec![work, functions, functions * t, functions * t]].concat()
+}
+
 fn average(sizes: &[usize]) -> Vec<u128> {
     let (t, kernel) = (pairs(sizes[0]), pairs(sizes[1]));
     vec![t, t, kernel, kernel, rows(sizes[0].min(sizes[1]))]
@@ -148,6 +165,13 @@ const TOLD: &[Told] = &[
     Told { name: "symmetric_eigen", entry: One(geopotential_symmetric_eigen_lengths), limits: &[512], due: matrix },
     Told { name: "householder_ql", entry: One(geopotential_householder_ql_lengths), limits: &[512], due: matrix },
     Told { name: "polar_cap", entry: One(geopotential_polar_cap_lengths), limits: &[180], due: cap },
+    Told {
+        name: "concentration_matrix",
+        entry: Two(geopotential_concentration_matrix_lengths),
+        limits: &[21, MAX_LINES],
+        due: concentration_matrix,
+    },
+    Told { name: "region", entry: Two(geopotential_region_lengths), limits: &[21, MAX_LINES], due: region },
     Told { name: "basin_average", entry: Two(geopotential_basin_average_lengths), limits: &[MAX_DEGREE, MAX_DEGREE], due: average },
 ];
 
@@ -181,9 +205,9 @@ fn all_sizes(tally: &mut Tally, told: &Told) {
     }
 }
 
-/// One answer, into lists of lengths that are long enough and into shorter ones. No entry tells more than 8 lengths.
+/// One answer, into lists of lengths that are long enough and into shorter ones. No entry tells more than 9 lengths.
 fn one(tally: &mut Tally, name: &str, due: Result<&[u128], u32>, call: impl Fn(&mut Guarded<usize>) -> u32, input: impl Fn() -> String) {
-    for room in [0, 1, 3, 4, 7, 8, 11] {
+    for room in [0, 1, 3, 4, 6, 7, 8, 9, 11] {
         let mut lengths = Guarded::marked(room);
         let number = call(&mut lengths);
         let (refusal, answer) = match due {

@@ -7,6 +7,7 @@ pub mod files;
 mod grow;
 pub mod models;
 pub mod points;
+pub mod regions;
 mod tensors;
 pub mod values;
 

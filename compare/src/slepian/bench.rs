@@ -1,9 +1,10 @@
 //! Times of the crate `slepian`.
 
 use oracle::Coefficients;
-use oracle::slepian::basin_average;
+use oracle::slepian::{basin_average, concentration_matrix, region};
 
 use super::caps::{Cap, lengths, work_size};
+use super::regions::{Asked, Region, stated};
 use crate::cases::Cases;
 use crate::entries::*;
 use crate::functional::{EARTH, functional};
@@ -16,6 +17,36 @@ pub fn bench() {
     for (lmax, calls) in [(2, 50), (18, 4), (60, 1), (180, 1)] {
         cap(lmax, calls);
     }
+    for (lmax, calls) in [(10, 4), (21, 1)] {
+        regions(lmax, calls);
+    }
+}
+
+/// A basin of 60 vertices and 472 nodes: its matrix, and its functions.
+fn regions(lmax: usize, calls: usize) {
+    let of = Region::sixty(lmax);
+    let (weights, latitudes, marks, s, c) = (of.weights(), of.latitudes(), of.marks(), of.s(), of.c());
+    let (w, l, m) = ((weights.as_ptr(), weights.len()), (latitudes.as_ptr(), latitudes.len()), (marks.as_ptr(), marks.len()));
+    let (s, c, nodes) = ((s.as_ptr(), s.len()), (c.as_ptr(), c.len()), marks.len());
+    let room = |asked: Asked| stated(asked, lmax, nodes)[5..].iter().map(|&length| vec![0.0; length as usize]).collect::<Vec<Vec<f64>>>();
+    let mut lists = room(Asked::Matrix);
+    let mut lent: Vec<(*mut f64, usize)> = lists.iter_mut().map(|list| (list.as_mut_ptr(), list.len())).collect();
+    let ours = || {
+        repeat(calls, || unsafe {
+            let (f, o) = (lent[0], lent[1]);
+            geopotential_concentration_matrix(lmax, nodes, w.0, w.1, l.0, l.1, m.0, m.1, s.0, s.1, c.0, c.1, f.0, f.1, o.0, o.1)
+        })
+    };
+    race(&format!("concentration_matrix L = {lmax}"), calls, ours, || repeat(calls, || allocated(concentration_matrix(lmax, &of.nodes))));
+    lists = room(Asked::Functions);
+    lent = lists.iter_mut().map(|list| (list.as_mut_ptr(), list.len())).collect();
+    let ours = || {
+        repeat(calls, || unsafe {
+            let (f, o, cs, ss) = (lent[0], lent[1], lent[2], lent[3]);
+            geopotential_region(lmax, nodes, w.0, w.1, l.0, l.1, m.0, m.1, s.0, s.1, c.0, c.1, f.0, f.1, o.0, o.1, cs.0, cs.1, ss.0, ss.1)
+        })
+    };
+    race(&format!("region L = {lmax}"), calls, ours, || repeat(calls, || allocated(region(lmax, &of.nodes))));
 }
 
 fn cap(lmax: usize, calls: usize) {

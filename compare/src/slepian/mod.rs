@@ -1,7 +1,9 @@
-//! The crate `slepian` against the oracle's `basin_average` and `polar_cap`.
+//! The crates `slepian`, `polar_cap`, `regions` and `region` against the oracle's slepian.rs.
 
 pub mod bench;
 mod caps;
+pub mod region_replay;
+mod regions;
 pub mod replay;
 
 use oracle::Coefficients;
@@ -24,6 +26,10 @@ pub fn compare(report: &mut Report) {
     report.call("slepian.refusals", refusals);
     report.call("slepian.polar_cap", caps::caps);
     report.call("slepian.polar_cap, refusals", caps::refusals);
+    report.call("slepian.concentration_matrix", regions::matrices);
+    report.call("slepian.region", regions::functions);
+    report.call("slepian.region, drawn", regions::drawn);
+    report.call("slepian.region, refusals", regions::refusals);
 }
 
 /// One call: the functional's number, its Love numbers, r, and the degrees and lengths that the call is given.

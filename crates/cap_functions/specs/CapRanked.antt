@@ -1,5 +1,5 @@
 -- The functions of a cap by their places: the order and the vector of the function at each place, and what the ranked places pick. Assumes nothing.
-use mathlib.Core.Path.{_≡_, refl, sym, ap, subst, _∙_}
+use mathlib.Core.Path.{_≡_, refl, sym, ap, _∙_}
 use mathlib.Core.Bool.{Bool, true, false}
 use mathlib.Core.List.{List, _++_}
 use mathlib.Core.Logic.{⊎-elim}
@@ -8,18 +8,18 @@ use native.Mathlib.Nat.{eq-or-lt-of-le, not-suc-le-zero, zero-add}
 use native.Mathlib.Omega.{arith}
 use lib.Dec.{ltb}
 use borrow.Author.Tests.{ltb-true, ltb-false}
-use lib.ListN.{length, getD, take, drop, length-append, List·getD-append, length-drop}
-use lib.Seq.{ext-getD, getD-append-add, getD-take, length-take-le}
+use lib.ListN.{length, getD, take, length-append, List·getD-append}
+use lib.Seq.{getD-append-add}
 use lib.Ieee.{Float, nan}
 use Rattle.number.specs.Float64.{ofWhole}
 use Rattle.storage.specs.Elements.{from, from-zero}
-use Rattle.storage.specs.Filled.{Filled, filled-join, filled-in, filled-same}
+use Rattle.storage.specs.Filled.{Filled, filled-join, filled-same}
 use Rattle.storage.specs.Tabulate.{tabulate, length-tabulate, getD-tabulate}
 use Rattle.storage.specs.Triangle.{tableSize}
-use Rattle.ranking.specs.Places.{rankedPlaces}
 use Rattle.caps.specs.Caps.{degrees}
 use Rattle.cap_functions.specs.Functions.{inColumn, functionsBelow, functions}
-use Rattle.ranking.specs.Rankings.{length-places, every-place, every-at, joined, joined-more, joined-within, joined-at}
+use Rattle.ranking.specs.Rankings.{joined, joined-more, joined-within, joined-at}
+use Rattle.ranking.specs.RankedIn.{PlacesIn, RankedIn}
 use Rattle.cap_functions.specs.CapPlaces.{functionsBefore, numbersBefore, vectorsAt, before, functions-all}
 
 -- the function at a place
@@ -46,11 +46,6 @@ pickedOrder places orders i = ofWhole (getD orders (getD places i 0) 0)
 
 unfoldable pub pickedNumber : ℕ → List ℕ → List Float → ℕ → Float
 pickedNumber at places work i = getD work (at + getD places i 0) nan
-
--- the first n places are below n
-pub record PlacesIn (n : ℕ) (places : List ℕ) : Type 0 where
-  pub long : n ≤ length places
-  pub inside : (i : ℕ) → i < n → getD places i 0 < n
 
 -- n functions have their orders, and their vectors within a working list of so many numbers
 pub record RunsIn (L n : ℕ) (orders starts : List ℕ) (work : ℕ) : Type 0 where
@@ -193,47 +188,6 @@ module _ (L n : ℕ) (orders starts places : List ℕ) (work : List Float) (p : 
       ∙ run-at j (omega (arith, ek)))
 
 -- ---- the ranked places
--- the places as the list that was lent for them holds them
-module _ (keys : List Float) {d l : List ℕ} (r : Filled 0 (from 0 (rankedPlaces keys) 0) (length keys) d l) (h : length keys ≤ length d) where
-  pub place-is : (i : ℕ) → i < length keys → getD l i 0 ≡ getD (rankedPlaces keys) i 0
-  place-is i b = filled-in {j = i} 0 r b (sym (zero-add i)) (omega arith) ∙ from-zero (rankedPlaces keys) 0 i
-
-  pub places-are : take (length keys) l ≡ rankedPlaces keys
-  places-are =
-      let long = r .long in
-      let n = length-take-le (length keys) l (omega arith) in
-      ext-getD 0 (take (length keys) l) (rankedPlaces keys) (n ∙ sym (length-places keys))
-      (λ i b. getD-take (length keys) l i 0 (omega arith) ∙ place-is i (omega arith))
-
-  pub places-in : PlacesIn (length keys) l
-  places-in = record {
-    long = omega (arith, r .long);
-    inside = λ i b.
-        let e = place-is i b in
-        let g = every-at (λ f. f < length keys) 0 (rankedPlaces keys) (every-place keys) i (omega (arith, length-places keys)) in
-        omega arith;
-  }
-
--- a list holds the places P at its front
-pub record RankedIn (n : ℕ) (P places : List ℕ) : Type 0 where
-  pub is : take n places ≡ P
-  pub at : (i : ℕ) → i < n → getD places i 0 ≡ getD P i 0
-  pub valid : PlacesIn n places
-
-pub ranked-in : (n at s : ℕ) (work : List Float) {d l : List ℕ} → s ≡ n → at + n ≤ length work
-    → Filled 0 (from 0 (rankedPlaces (take s (drop at work))) 0) (length (take s (drop at work))) d l → n ≤ length d
-    → RankedIn n (rankedPlaces (take n (drop at work))) l
-ranked-in n at s work {d} {l} e h r b =
-    let K = take n (drop at work) in
-    let long : length K ≡ n = length-take-le n (drop at work) (omega (arith, length-drop at work)) in
-    let q : Filled 0 (from 0 (rankedPlaces K) 0) (length K) d l =
-    subst (λ (x : ℕ). Filled 0 (from 0 (rankedPlaces (take x (drop at work))) 0) (length (take x (drop at work))) d l) e r in
-    record {
-      is = ap (λ (x : ℕ). take x l) (sym long) ∙ places-are K q (omega arith);
-      at = λ i g. place-is K q (omega arith) i (omega arith);
-      valid = subst (λ (x : ℕ). PlacesIn x l) long (places-in K q (omega arith));
-    }
-
 module _ {n : ℕ} {P places : List ℕ} (r : RankedIn n P places) where
   pub picked-orders : (orders : List ℕ) {d l : List Float} → Filled 0 (pickedOrder places orders) n d l → Filled 0 (pickedOrder P orders) n d l
   unfolding pickedOrder

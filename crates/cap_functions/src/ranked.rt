@@ -9,7 +9,8 @@ ghost use Rattle.storage.specs.Triangle.{tableSize};
 ghost use Rattle.ranking.specs.Places.{rankedPlaces};
 ghost use Rattle.cap_functions.specs.CapPlaces.{vectorsAt};
 ghost use Rattle.ranking.specs.Rankings.{joined};
-ghost use Rattle.cap_functions.specs.CapRanked.{orderAt, startAt, sameOrder, apartBy, runAt, pickedOrder, pickedNumber, PlacesIn, RunsIn};
+ghost use Rattle.ranking.specs.RankedIn.{PlacesIn};
+ghost use Rattle.cap_functions.specs.CapRanked.{orderAt, startAt, sameOrder, apartBy, runAt, pickedOrder, pickedNumber, RunsIn};
 
 // The functions of order m are those of the places f to f + k - 1; their vectors follow each other from index v of the working list on.
 fn number_order(m: usize, k: usize, f: usize, v: usize, orders: &mut [usize], starts: &mut [usize])

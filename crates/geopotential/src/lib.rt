@@ -8,6 +8,7 @@ pub mod analyses;
 mod caps;
 pub mod fields;
 pub mod files;
+pub mod free_regions;
 pub mod functionals;
 pub mod lists;
 mod matrices;

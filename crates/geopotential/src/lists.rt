@@ -9,7 +9,7 @@ ghost use Rattle.lengths.specs.Told.{sizeCheck, lengthsCheck, lengthsAfter};
 ghost use Rattle.lengths.specs.Lengths.{degreeSize, twoDegrees, gridSizes, alongSizes, readSizes, tablesLengths, factorLengths, truncatedLengths};
 ghost use Rattle.lengths.specs.Lengths.{variancesLengths, amplitudesLengths, readLengths, writeLengths, gaussLengths, gridLengths, averageLengths};
 ghost use Rattle.lengths.specs.Lengths.{partialsLengths, alongLengths, threeLengths, secondLengths, secondAlongLengths, nineLengths, analysisLengths, eigenLengths};
-ghost use Rattle.lengths.specs.Lengths.{capLengths};
+ghost use Rattle.lengths.specs.Lengths.{capLengths, regionSizes, matrixLengths, regionLengths};
 
 #[no_mangle]
 pub extern "C" fn geopotential_factor_lengths(n: usize, lengths: &mut [usize]) -> u32
@@ -280,4 +280,28 @@ pub extern "C" fn geopotential_polar_cap_lengths(lmax: usize, lengths: &mut [usi
     ensures { λ x. ⌜ now (lengths .exit) ≡ lengthsAfter (sizeCheck 180 lmax) (capLengths lmax) (now (lengths .entry)) ⌝ }
 {
     refusal::answer_number(lengths::polar_cap(lmax, lengths))
+}
+
+#[no_mangle]
+pub extern "C" fn geopotential_concentration_matrix_lengths(
+    lmax: usize,
+    nodes: usize,
+    lengths: &mut [usize],
+) -> u32
+    ensures { λ x. ⌜ x ≡ answerNumber (lengthsCheck (regionSizes lmax nodes) (matrixLengths lmax nodes) (length (now (lengths .entry)))) ⌝ }
+    ensures { λ x. ⌜ now (lengths .exit) ≡ lengthsAfter (regionSizes lmax nodes) (matrixLengths lmax nodes) (now (lengths .entry)) ⌝ }
+{
+    refusal::answer_number(lengths::concentration_matrix(lmax, nodes, lengths))
+}
+
+#[no_mangle]
+pub extern "C" fn geopotential_region_lengths(
+    lmax: usize,
+    nodes: usize,
+    lengths: &mut [usize],
+) -> u32
+    ensures { λ x. ⌜ x ≡ answerNumber (lengthsCheck (regionSizes lmax nodes) (regionLengths lmax nodes) (length (now (lengths .entry)))) ⌝ }
+    ensures { λ x. ⌜ now (lengths .exit) ≡ lengthsAfter (regionSizes lmax nodes) (regionLengths lmax nodes) (now (lengths .entry)) ⌝ }
+{
+    refusal::answer_number(lengths::region(lmax, nodes, lengths))
 }

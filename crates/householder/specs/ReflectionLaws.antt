@@ -10,7 +10,7 @@ use lib.Ieee.{Float, nan, eq}
 use borrow.Author.Tests.{ltb-true}
 use Rattle.number.specs.Float64.{zero64}
 use Rattle.storage.specs.Elements.{from}
-use Rattle.storage.specs.Filled.{Filled, filled-after, filled-self, filled-same}
+use Rattle.storage.specs.Filled.{Filled, filled-after, filled-same}
 use Rattle.storage.specs.Rectangle.{byRows}
 use Rattle.matrix.specs.Matrix.{cell, kronecker, diagonalCell, matrix-self}
 use Rattle.matrix.specs.Layout.{flipped, transposed, cell-transposed, filled-transposed, identity-transposed}
@@ -85,8 +85,8 @@ module _ (n : ℕ) (t w : List Float) (e : transposed n w ≡ t) where
       rw h (sym (cell-transposed n w (i + 1) i l (omega arith)) ∙ ap (λ (x : List Float). cell n x (i + 1) i) e)
   below i false h = rw h refl
 
-  pub subdiagonal-of : {d l : List Float} → Filled 0 (subdiagonalIn n w) n d l → Filled 0 (subdiagonalCell n t) n l l
-  subdiagonal-of r = filled-same (subdiagonalCell n t) (filled-self r) (λ i h. below i (ltb (i + 1) n) refl)
+  pub subdiagonal-of : {d l : List Float} → Filled 0 (subdiagonalIn n w) n d l → Filled 0 (subdiagonalCell n t) n d l
+  subdiagonal-of r = filled-same (subdiagonalCell n t) r (λ i h. below i (ltb (i + 1) n) refl)
 
 -- the number below the diagonal in column i is not yet written over when i numbers are
 pub subdiagonal-before : (n : ℕ) {F : ℕ → Float} {i : ℕ} {d l : List Float} → Filled 0 F i d l → subdiagonalIn n l i ≡ subdiagonalIn n d i

@@ -1,9 +1,9 @@
 // The reduction of a matrix to tridiagonal form by Householder reflections. The matrix and the product of the reflections are held column by
 // column: each column is a run of the storage, and every inner loop goes along runs.
-mod accumulation;
+pub mod accumulation;
 mod columns;
-mod reflection;
-mod vector;
+pub mod reflection;
+pub mod vector;
 
 ghost use mathlib.Core.Path.{_≡_};
 ghost use Prim.Native.Nat.{_+_, _*_, _≤_, _<_};
@@ -46,7 +46,7 @@ fn reflections(n: usize, v: &mut [f64], p: &mut [f64], w: &mut [f64], q: &mut [f
 }
 
 // The number below the diagonal in column i, and 0 in the last column, which has none.
-fn subdiagonal_at(n: usize, i: usize, w: &[f64]) -> f64
+pub fn subdiagonal_at(n: usize, i: usize, w: &[f64]) -> f64
     requires { ⌜ Room n (now w) ⌝ ∗ ⌜ i < n ⌝ }
     ensures { λ r. ⌜ r ≡ subdiagonalIn n (now (w .entry)) i ⌝ }
 {

@@ -195,7 +195,7 @@ fn table(
 }
 
 // The table of P up to a low degree, in short arrays: an array is cleared before it is used.
-fn compute_short(nmax: usize, t: f64, u: f64, a: &[f64], b: &[f64], p: &mut [f64])
+pub fn compute_short(nmax: usize, t: f64, u: f64, a: &[f64], b: &[f64], p: &mut [f64])
     requires { ⌜ nmax ≤ 127 ⌝ ∗ ⌜ tableSize nmax ≤ length (now a) ⌝ ∗ ⌜ tableSize nmax ≤ length (now b) ⌝ ∗ ⌜ tableSize nmax ≤ length (now p) ⌝ }
     ensures { λ _. ⌜ Filled 0 (along (pCell (from 0 (now (a .entry)) nan) (from 0 (now (b .entry)) nan) t u)) (tableSize nmax)
         (now (p .entry)) (now (p .exit)) ⌝ }

@@ -50,11 +50,17 @@ use Rattle.linalg.specs.Eigen.{eigenCheck}
 use Rattle.linalg.specs.Checks as matrices
 use Rattle.polar_cap.specs.PolarCap.{vectorsSize, capWork, capCheck}
 use Rattle.polar_cap.specs.CapChecks as caps
+use Rattle.region_nodes.specs.Basis.{basisSize}
+use Rattle.region_nodes.specs.Regions.{integrals}
+use Rattle.regions.specs.Checks.{matrixCheck}
+use Rattle.regions.specs.CheckLaws.{nodes-done, matrix-done}
+use Rattle.region.specs.Region.{regionWork, regionCheck}
+use Rattle.region.specs.RegionChecks as regions
 use Rattle.lengths.specs.Told.{sizeCheck, lengthsCheck, lengthsAfter, within}
 use Rattle.lengths.specs.Lengths.{degreeSize, twoDegrees, gridSizes, alongSizes, tablesLengths, factorLengths, truncatedLengths}
 use Rattle.lengths.specs.Lengths.{variancesLengths, amplitudesLengths, fileLengths, readLengths, writeLengths, gaussLengths, gridLengths}
 use Rattle.lengths.specs.Lengths.{averageLengths, pointLengths, partialsLengths, secondLengths, pointsLengths, alongLengths, secondAlongLengths}
-use Rattle.lengths.specs.Lengths.{analysisLengths, eigenLengths, capLengths}
+use Rattle.lengths.specs.Lengths.{analysisLengths, eigenLengths, capLengths, regionSizes, matrixLengths, regionLengths}
 
 -- ---- what a call that is done has told
 -- sizes within the limits
@@ -321,6 +327,42 @@ cap-enough L weights lats work orders concentrations vectors ok e =
     let k : concentrations ≡ tableSize L = cc in
     let v : vectors ≡ vectorsSize L = cc in
     caps.all-passed L weights lats work orders concentrations vectors (within 180 L ok) p q (omega arith) (omega arith) (omega arith) (omega arith)
+
+-- `concentration_matrix`
+pub matrix-enough : (L nodes weights lats marks s c work matrix : ℕ) → Done ≡ regionSizes L nodes
+    → weights ∷ lats ∷ marks ∷ s ∷ c ∷ work ∷ matrix ∷ [] ≡ matrixLengths L nodes
+    → Done ≡ matrixCheck L nodes weights lats marks s c work matrix
+unfolding matrixLengths integrals
+matrix-enough L nodes weights lats marks s c work matrix ok e =
+    let (top, few) = both (sizeCheck 21 L) (sizeCheck 65535 nodes) ok in
+    let p : weights ≡ nodes = cc in
+    let q : lats ≡ nodes + nodes = cc in
+    let m : marks ≡ nodes = cc in
+    let i : s ≡ nodes * integrals L = cc in
+    let j : c ≡ nodes * integrals L = cc in
+    let w : work ≡ 3 * tableSize L = cc in
+    let d : matrix ≡ basisSize L * basisSize L = cc in
+    let n = nodes-done L nodes weights lats marks s c (within 21 L top) (within 65535 nodes few) p q m i j in
+    matrix-done L nodes weights lats marks s c work matrix n (omega arith) (omega arith)
+
+-- `region`
+pub region-enough : (L nodes weights lats marks s c work concentrations cs ss : ℕ) → Done ≡ regionSizes L nodes
+    → weights ∷ lats ∷ marks ∷ s ∷ c ∷ work ∷ concentrations ∷ cs ∷ ss ∷ [] ≡ regionLengths L nodes
+    → Done ≡ regionCheck L nodes weights lats marks s c work concentrations cs ss
+unfolding regionLengths integrals
+region-enough L nodes weights lats marks s c work concentrations cs ss ok e =
+    let (top, few) = both (sizeCheck 21 L) (sizeCheck 65535 nodes) ok in
+    let p : weights ≡ nodes = cc in
+    let q : lats ≡ nodes + nodes = cc in
+    let m : marks ≡ nodes = cc in
+    let i : s ≡ nodes * integrals L = cc in
+    let j : c ≡ nodes * integrals L = cc in
+    let w : work ≡ regionWork L = cc in
+    let o : concentrations ≡ basisSize L = cc in
+    let u : cs ≡ basisSize L * tableSize L = cc in
+    let v : ss ≡ basisSize L * tableSize L = cc in
+    let n = nodes-done L nodes weights lats marks s c (within 21 L top) (within 65535 nodes few) p q m i j in
+    regions.all-passed L nodes weights lats marks s c work concentrations cs ss n (omega arith) (omega arith) (omega arith) (omega arith)
 
 -- ---- `model_read`
 -- lists with room for what a file says

@@ -20,6 +20,9 @@ use Rattle.quadrature.specs.Gauss.{guessCount}
 use Rattle.synthesis.specs.Grid.{workSize}
 use Rattle.analysis.specs.Analysis.{pointsOf}
 use Rattle.polar_cap.specs.PolarCap.{vectorsSize, capWork}
+use Rattle.region_nodes.specs.Basis.{basisSize}
+use Rattle.region_nodes.specs.Regions.{integrals}
+use Rattle.region.specs.Region.{regionWork}
 use Rattle.lengths.specs.Told.{sizeCheck}
 
 -- ---- the sizes, in the order in which the call checks them
@@ -135,6 +138,22 @@ eigenLengths n = (n * n) ∷ (n * n + 4 * n) ∷ n ∷ (n * n) ∷ []
 unfoldable pub capLengths : ℕ → List ℕ
 capLengths L = (L + 1) ∷ (L + 1 + (L + 1)) ∷ capWork L ∷ tableSize L ∷ tableSize L ∷ vectorsSize L ∷ []
 
+-- ---- regions
+-- SIZE of the degree and of the nodes
+abbrev pub regionSizes : (L nodes : ℕ) → Answer
+regionSizes L nodes = sizeCheck 21 L andThen sizeCheck 65535 nodes
+
+-- weights, latitudes, marks, s, c, work, matrix
+unfoldable pub matrixLengths : (L nodes : ℕ) → List ℕ
+matrixLengths L nodes =
+    nodes ∷ (nodes + nodes) ∷ nodes ∷ (nodes * integrals L) ∷ (nodes * integrals L) ∷ (3 * tableSize L) ∷ (basisSize L * basisSize L) ∷ []
+
+-- weights, latitudes, marks, s, c, work, concentrations, cs, ss
+unfoldable pub regionLengths : (L nodes : ℕ) → List ℕ
+regionLengths L nodes =
+    nodes ∷ (nodes + nodes) ∷ nodes ∷ (nodes * integrals L) ∷ (nodes * integrals L) ∷ regionWork L ∷ basisSize L ∷ (basisSize L * tableSize L)
+    ∷ (basisSize L * tableSize L) ∷ []
+
 -- ---- as the code has them
 -- the first of four tables
 pub tables-told : {size : ℕ} (N count : ℕ) → count ≤ 4 → size ≡ tableSize N → take count (size ∷ size ∷ size ∷ size ∷ []) ≡ tablesLengths count N
@@ -165,3 +184,14 @@ pub grid-told : (N rows longitudes : ℕ) {size trig work out : ℕ} → size �
     → out ≡ rows * longitudes → size ∷ size ∷ (N + 1) ∷ (rows + rows) ∷ trig ∷ work ∷ out ∷ [] ≡ gridLengths N rows longitudes
 unfolding gridLengths
 grid-told N rows longitudes e t w o = cc
+
+pub matrix-told : (L nodes : ℕ) {integral table cells : ℕ} → integral ≡ nodes * integrals L → table ≡ tableSize L → cells ≡ basisSize L * basisSize L
+    → nodes ∷ (nodes + nodes) ∷ nodes ∷ integral ∷ integral ∷ (3 * table) ∷ cells ∷ [] ≡ matrixLengths L nodes
+unfolding matrixLengths
+matrix-told L nodes i t d = cc
+
+pub region-told : (L nodes : ℕ) {integral work functions numbers : ℕ} → integral ≡ nodes * integrals L → work ≡ regionWork L → functions ≡ basisSize L
+    → numbers ≡ basisSize L * tableSize L
+    → nodes ∷ (nodes + nodes) ∷ nodes ∷ integral ∷ integral ∷ work ∷ functions ∷ numbers ∷ numbers ∷ [] ≡ regionLengths L nodes
+unfolding regionLengths
+region-told L nodes i w f d = cc

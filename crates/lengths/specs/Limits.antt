@@ -39,8 +39,12 @@ use Rattle.linalg.specs.Eigen.{eigenCheck}
 use Rattle.linalg.specs.Checks.{too-large}
 use Rattle.polar_cap.specs.PolarCap.{capCheck}
 use Rattle.polar_cap.specs.CapChecks as caps
+use Rattle.regions.specs.Checks.{nodesCheck, matrixCheck}
+use Rattle.regions.specs.CheckLaws as nodes
+use Rattle.region.specs.Region.{regionCheck}
+use Rattle.region.specs.RegionChecks as regions
 use Rattle.lengths.specs.Told.{sizeCheck, within}
-use Rattle.lengths.specs.Lengths.{degreeSize, twoDegrees, gridSizes, alongSizes}
+use Rattle.lengths.specs.Lengths.{degreeSize, twoDegrees, gridSizes, alongSizes, regionSizes}
 
 beyond : (limit size : ℕ) → Refused Size ≡ sizeCheck limit size → limit < size
 unfolding sizeCheck refuse
@@ -158,6 +162,23 @@ pub cap-limit : (L weights lats work orders concentrations vectors : ℕ) → Re
     → Refused Size ≡ capCheck L weights lats work orders concentrations vectors
 cap-limit L weights lats work orders concentrations vectors bad =
     caps.large-degree L weights lats work orders concentrations vectors (beyond 180 L bad)
+
+nodes-limit : (L count weights lats marks s c : ℕ) → Refused Size ≡ regionSizes L count → Refused Size ≡ nodesCheck L count weights lats marks s c
+nodes-limit L count weights lats marks s c bad =
+    ⊎-elim
+    (λ p. nodes.high-degree L count weights lats marks s c (beyond 21 L p))
+    (λ q. nodes.many-nodes L count weights lats marks s c (within 21 L (q .0)) (beyond 65535 count (q .1)))
+    (either (sizeCheck 21 L) _ bad)
+
+pub matrix-limit : (L count weights lats marks s c work matrix : ℕ) → Refused Size ≡ regionSizes L count
+    → Refused Size ≡ matrixCheck L count weights lats marks s c work matrix
+matrix-limit L count weights lats marks s c work matrix bad =
+    nodes.matrix-lists L count weights lats marks s c work matrix Size (nodes-limit L count weights lats marks s c bad)
+
+pub region-limit : (L count weights lats marks s c work concentrations cs ss : ℕ) → Refused Size ≡ regionSizes L count
+    → Refused Size ≡ regionCheck L count weights lats marks s c work concentrations cs ss
+region-limit L count weights lats marks s c work concentrations cs ss bad =
+    regions.nodes-refused L count weights lats marks s c work concentrations cs ss (nodes-limit L count weights lats marks s c bad)
 
 -- `model_read`: by the head, told by its bytes or more
 pub read-limit : (file : List ℕ) (front : ℕ) (e : Refusal) → headSize (dateAt file) ≤ front → front ≤ length file → headOf (take front file) ≡ Unread e

@@ -13,7 +13,7 @@ ghost use Rattle.lengths.specs.Told.{sizeCheck, lengthsCheck, lengthsAft
 ghost use Rattle.lengths.specs.Lengths.{degreeSize, twoDegrees, gridSizes, alongSizes, readSizes, tablesLengths, factorLengths, truncatedLengths};
 ghost use Rattle.lengths.specs.Lengths.{variancesLengths, amplitudesLengths, readLengths, writeLengths, gaussLengths, gridLengths, averageLengths};
 ghost use Rattle.lengths.specs.Lengths.{partialsLengths, alongLengths, threeLengths, secondLengths, secondAlongLengths, nineLengths};
-ghost use Rattle.lengths.specs.Lengths.{analysisLengths, eigenLengths, capLengths};
+ghost use Rattle.lengths.specs.Lengths.{analysisLengths, eigenLengths, capLengths, regionSizes, matrixLengths, regionLengths};
 
 // `factor`: love.
 pub fn factor(n: usize, lengths: &mut [usize]) -> Answer
@@ -344,6 +344,59 @@ pub fn polar_cap(lmax: usize, lengths: &mut [usize]) -> Answer
         sizes.work,
         sizes.functions,
         sizes.functions,
+        sizes.numbers,
+    ];
+    leaves::tell(&told, lengths)
+}
+
+// `concentration_matrix`: weights, latitudes, marks, s, c, work, matrix.
+pub fn concentration_matrix(lmax: usize, nodes: usize, lengths: &mut [usize]) -> Answer
+    ensures { λ x. ⌜ x ≡ lengthsCheck (regionSizes lmax nodes) (matrixLengths lmax nodes) (length (now (lengths .entry))) ⌝ }
+    ensures { λ x. ⌜ now (lengths .exit) ≡ lengthsAfter (regionSizes lmax nodes) (matrixLengths lmax nodes) (now (lengths .entry)) ⌝ }
+{
+    if lmax > regions::MAX_REGION {
+        return Answer::Refused(Refusal::Size);
+    }
+    if nodes > regions::MAX_REGION_NODES {
+        return Answer::Refused(Refusal::Size);
+    }
+    let sizes = region::region_sizes(lmax);
+    let integrals = leaves::product(nodes, lmax + lmax + 1);
+    let cells = leaves::product(sizes.functions, sizes.functions);
+    let told = [
+        nodes,
+        nodes + nodes,
+        nodes,
+        integrals,
+        integrals,
+        3 * sizes.table,
+        cells,
+    ];
+    leaves::tell(&told, lengths)
+}
+
+// `region`: weights, latitudes, marks, s, c, work, concentrations, cs, ss.
+pub fn region(lmax: usize, nodes: usize, lengths: &mut [usize]) -> Answer
+    ensures { λ x. ⌜ x ≡ lengthsCheck (regionSizes lmax nodes) (regionLengths lmax nodes) (length (now (lengths .entry))) ⌝ }
+    ensures { λ x. ⌜ now (lengths .exit) ≡ lengthsAfter (regionSizes lmax nodes) (regionLengths lmax nodes) (now (lengths .entry)) ⌝ }
+{
+    if lmax > regions::MAX_REGION {
+        return Answer::Refused(Refusal::Size);
+    }
+    if nodes > regions::MAX_REGION_NODES {
+        return Answer::Refused(Refusal::Size);
+    }
+    let sizes = region::region_sizes(lmax);
+    let integrals = leaves::product(nodes, lmax + lmax + 1);
+    let told = [
+        nodes,
+        nodes + nodes,
+        nodes,
+        integrals,
+        integrals,
+        sizes.work,
+        sizes.functions,
+        sizes.numbers,
         sizes.numbers,
     ];
     leaves::tell(&told, lengths)

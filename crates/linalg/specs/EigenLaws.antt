@@ -47,10 +47,10 @@ lent-kept {m} x d e h = record {
 -- ---- the Householder reduction and the QL iteration
 module _ (n : ℕ) (a : List Float) where
   -- the iteration begins with the tridiagonal form, which the lists hold after the reduction
-  pub iterated : (values work vectors : List Float) {values₀ d e q : List Float} {k : ℕ} {met : Bool}
-      → Filled 0 (diagonalCell n (reduction n a .matrix)) n values₀ values → Filled 0 (subdiagonalCell n (reduction n a .matrix)) n work work
+  pub iterated : (values work vectors : List Float) {values₀ work₀ d e q : List Float} {k : ℕ} {met : Bool}
+      → Filled 0 (diagonalCell n (reduction n a .matrix)) n values₀ values → Filled 0 (subdiagonalCell n (reduction n a .matrix)) n work₀ work
       → transposed n vectors ≡ reduction n a .orthogonal
-      → Counted n (iteration n (held n (take n values) (take n work) vectors)) vectors d e q k met → n ≤ length values₀ → n ≤ length work
+      → Counted n (iteration n (held n (take n values) (take n work) vectors)) vectors d e q k met → n ≤ length values₀ → n ≤ length work₀
       → state (held n d e q) k met ≡ householderQl n a
   unfolding householderQl tridiagonalOf diagonal subdiagonal
   iterated values work vectors diag sub orth count h g =

@@ -1,5 +1,7 @@
 // Eigenvalues and eigenvectors of a symmetric matrix: values in no particular order, vectors as columns. A matrix that has not settled is still
 // answered.
+pub mod within;
+
 use ql::Settled;
 use refusal::Answer;
 use refusal::Refusal;

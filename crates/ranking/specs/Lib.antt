@@ -2,3 +2,4 @@ pub mod Places
 pub mod Merging
 pub mod Runs
 pub mod Rankings
+pub mod RankedIn

@@ -92,7 +92,7 @@ fn b_row(n: usize, at: usize, ratio: &[f64], b: &mut [f64])
 }
 
 // The rows of a from degree `first` to nmax, which start at index `start`; `inverse` may be overwritten.
-fn a_rows(first: usize, start: usize, nmax: usize, inverse: &mut [f64], a: &mut [f64])
+pub fn a_rows(first: usize, start: usize, nmax: usize, inverse: &mut [f64], a: &mut [f64])
     requires { ⌜ first ≤ nmax + 1 ⌝ ∗ ⌜ start ≡ rowStart first ⌝ ∗ ⌜ nmax ≤ 2700 ⌝ ∗ ⌜ nmax + nmax < length (now inverse) ⌝ ∗ ⌜ tableSize nmax ≤ length (now a) ⌝ }
     ensures { λ r. ⌜ Filled start (rowsFrom aCell first) (tableSize nmax - start) (now (a .entry)) (now (a .exit)) ⌝ }
 {
@@ -107,7 +107,7 @@ fn a_rows(first: usize, start: usize, nmax: usize, inverse: &mut [f64], a: &mut 
 }
 
 // The rows of b likewise, with `ratio`.
-fn b_rows(first: usize, start: usize, nmax: usize, ratio: &mut [f64], b: &mut [f64])
+pub fn b_rows(first: usize, start: usize, nmax: usize, ratio: &mut [f64], b: &mut [f64])
     requires { ⌜ first ≤ nmax + 1 ⌝ ∗ ⌜ start ≡ rowStart first ⌝ ∗ ⌜ nmax ≤ 2700 ⌝ ∗ ⌜ nmax + nmax < length (now ratio) ⌝ ∗ ⌜ tableSize nmax ≤ length (now b) ⌝ }
     ensures { λ r. ⌜ Filled start (rowsFrom bCell first) (tableSize nmax - start) (now (b .entry)) (now (b .exit)) ⌝ }
 {

@@ -3,6 +3,7 @@
 use mathlib.Core.Path.{_≡_, refl, ap, _∙_}
 use mathlib.Core.List.{List}
 use Prim.Native.Nat.{ℕ, _+_, _≤_, _<_}
+use native.Mathlib.Nat.{zero-add}
 use native.Mathlib.Omega.{arith}
 use lib.ListN.{length, getD, take, drop}
 use lib.Seq.{getD-take, getD-drop}
@@ -88,16 +89,20 @@ module _ (N : ℕ) (l : List Float) (total count i j h : ℕ) (et : total ≡ ta
       ∙ ap (λ (x : ℕ). getD l x nan) place
 
   pub sectorals-standing : Prepared N l → Filled 0 pmm (N + 1) (sectoralsPart total i j h l) (sectoralsPart total i j h l)
-  sectorals-standing p = filled-standing nan (sectoralsPart total i j h l) (N + 1) (λ m b. part-at m (omega arith) ∙ p .sectorals m (omega arith))
+  sectorals-standing p =
+      let part = sectoralsPart total i j h l in
+      filled-standing nan 0 part (N + 1)
+      (λ m b. ap (λ (k : ℕ). getD part k nan) (zero-add m) ∙ part-at m (omega arith) ∙ p .sectorals m (omega arith))
 
   pub powers-standing : (g : ℕ) (u : Float) {l₀ : List Float} → count ≤ g → Filled (powersAt N) (rescale u) (N + 1) l₀ l → powersAt N + (N + 1) ≤ length l₀
       → Filled 0 (rescale u) (N + 1) (take g (drop count (sectoralsPart total i j h l))) (take g (drop count (sectoralsPart total i j h l)))
   powers-standing g u hg r room =
       let part = sectoralsPart total i j h l in
-      filled-standing nan (take g (drop count part)) (N + 1)
+      filled-standing nan 0 (take g (drop count part)) (N + 1)
       (λ m b.
       let place : sectoralsAt N + (count + m) ≡ powersAt N + m = omega arith in
-      getD-take g (drop count part) m nan (omega arith)
+      ap (λ (k : ℕ). getD (take g (drop count part)) k nan) (zero-add m)
+      ∙ getD-take g (drop count part) m nan (omega arith)
       ∙ getD-drop count part m nan
       ∙ part-at (count + m) (omega arith)
       ∙ filled-in {j = m} nan r b place (omega arith))

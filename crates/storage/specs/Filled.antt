@@ -2,7 +2,7 @@
 -- `omega` finds it. Assumes nothing.
 use mathlib.Core.Path.{_≡_, refl, sym, ap, subst, _∙_}
 use Prim.Native.Nat.{ℕ, zero, suc, _+_, _-_, _≤_, _<_}
-use native.Mathlib.Nat.{le-refl, add-zero, zero-add, add-sub-of-le}
+use native.Mathlib.Nat.{le-refl, add-zero, add-sub-of-le}
 use native.Mathlib.Numerals.{add-one}
 use native.Mathlib.Omega.{arith}
 use mathlib.Core.List.{List, _++_}
@@ -103,12 +103,30 @@ module _ {A : Type 0} {at k : ℕ} {F : ℕ → A} {d l : List A} where
 pub filled-one : {A : Type 0} {at : ℕ} {F : ℕ → A} {v : A} (d : List A) → v ≡ F 0 → Filled at F 1 d (set d at v)
 filled-one {A} {at} d h = filled-more filled-none (sym (add-zero at)) h
 
--- elements that stand at the front of a list fill it
-pub filled-standing : {A : Type 0} {F : ℕ → A} (z : A) (l : List A) (k : ℕ) → ((j : ℕ) → j < k → getD l j z ≡ F j) → Filled 0 F k l l
-filled-standing z l zero e = filled-none
-filled-standing {A} {F} z l (suc k) e =
-    let more = filled-more {v = getD l k z} (filled-standing z l k (λ j h. e j (omega arith))) (sym (zero-add k)) (e k (omega arith)) in
-    record { is = sym (set-getD l k z) ∙ more .is ∙ ap (λ (i : ℕ). fill 0 F i l) (add-one k); long = refl }
+module _ {A : Type 0} where
+  -- elements that stand from index at on fill it
+  pub filled-standing : {F : ℕ → A} (z : A) (at : ℕ) (l : List A) (k : ℕ) → ((j : ℕ) → j < k → getD l (at + j) z ≡ F j) → Filled at F k l l
+  filled-standing z at l zero e = filled-none
+  filled-standing {F} z at l (suc k) e =
+      let more =
+      filled-more {i = at + k} {v = getD l (at + k) z} (filled-standing z at l k (λ j h. e j (omega arith))) (omega arith) (e k (omega arith)) in
+      filled at F (suc k) l (sym (set-getD l (at + k) z) ∙ more .is ∙ ap (λ (i : ℕ). fill at F i l) (add-one k))
+
+  module _ (F : ℕ → A) (z : A) (at k n : ℕ) {G : ℕ → A} {l l′ : List A} where
+    -- the first k of n elements are written, and the others stand
+    pub filled-first : Filled at G k l l′ → k ≤ n → ((j : ℕ) → j < k → G j ≡ F j) → ((j : ℕ) → k ≤ j → j < n → getD l (at + j) z ≡ F j) → Filled at F n l l′
+    filled-first r h new old =
+        let stands =
+        filled-standing {F = λ j. F (k + j)} z (at + k) l′ (n - k)
+        (λ j b.
+        let e : at + k + j ≡ at + (k + j) = omega arith in
+        filled-after (at + k + j) z r (omega arith) ∙ ap (λ (i : ℕ). getD l i z) e ∙ old (k + j) (omega arith) (omega arith)) in
+        filled-to (filled-join (filled-same F r new) stands (omega arith) (λ j b. refl)) (add-sub-of-le h)
+
+    -- the first k of n elements stand, and the others are written
+    pub filled-last : {at′ : ℕ} → Filled at′ G (n - k) l l′ → at′ ≡ at + k → k ≤ n → ((j : ℕ) → j < k → getD l (at + j) z ≡ F j)
+        → ((j : ℕ) → j < n - k → F (k + j) ≡ G j) → Filled at F n l l′
+    filled-last r p h old new = filled-to (filled-join (filled-standing z at l k old) r p new) (add-sub-of-le h)
 
 -- the n elements from s on, lent, filled from their front and given back
 pub filled-part : {A : Type 0} {k : ℕ} {F : ℕ → A} {y : List A} (s n : ℕ) (w : List A) → Filled 0 F k (take n (drop s w)) y → k ≤ n

@@ -1,8 +1,8 @@
 -- Rows of equal length, one after the other in a list. Assumes nothing.
 use mathlib.Core.Path.{_≡_, sym, ap, ap₂, _∙_}
 use mathlib.Core.List.{List}
-use Prim.Native.Nat.{ℕ, _+_, _-_, _*_, _/_, _%_, _≤_, _<_}
-use native.Mathlib.Nat.{add-comm, zero-add, add-mul-div-right, div-eq-of-lt, mod-eq-sub-div-mul}
+use Prim.Native.Nat.{ℕ, zero, suc, _+_, _-_, _*_, _/_, _%_, _≤_, _<_}
+use native.Mathlib.Nat.{add-comm, zero-add, add-mul-div-right, div-eq-of-lt, mod-eq-sub-div-mul, zero-lt-suc, div-lt-iff-lt-mul, mod-lt}
 use native.Mathlib.Omega.{arith}
 use lib.ListN.{length, getD}
 use Rattle.storage.specs.Filled.{Filled, filled-join, filled-to, filled-in, filled-same}
@@ -10,6 +10,11 @@ use Rattle.storage.specs.Filled.{Filled, filled-join, filled-to, filled-
 -- row after row, L elements in each: what stands at index k
 unfoldable pub byRows : {A : Type 0} → (ℕ → ℕ → A) → ℕ → ℕ → A
 byRows F L k = F (k / L) (k % L)
+
+-- an index among rows is that of a row that has elements
+some-element : (n L k : ℕ) → k < n * L → 0 < L
+some-element n zero k h = absurd (omega arith)
+some-element n (suc L) k h = zero-lt-suc L
 
 module _ {A : Type 0} where
   pub by-row : (F : ℕ → ℕ → A) (L i j : ℕ) → j < L → byRows F L (i * L + j) ≡ F i j
@@ -41,3 +46,11 @@ module _ {A : Type 0} where
       → Filled 0 (byRows G L) k d l
   unfolding byRows
   by-rows-same F G L e r = filled-same (byRows G L) r (λ k h. e (k / L) (k % L))
+
+  -- the same where only the first n rows count
+  pub by-rows-within : (F G : ℕ → ℕ → A) (n L : ℕ) {d l : List A} → ((i j : ℕ) → i < n → j < L → F i j ≡ G i j) → Filled 0 (byRows F L) (n * L) d l
+      → Filled 0 (byRows G L) (n * L) d l
+  unfolding byRows
+  by-rows-within F G n L e r =
+      filled-same (byRows G L) r
+      (λ k h. let some = some-element n L k h in e (k / L) (k % L) (div-lt-iff-lt-mul some .1 h) (mod-lt k some))

@@ -61,6 +61,10 @@ lengths! {
     fn householder_ql(n) -> 4 = geopotential_householder_ql_lengths;
     /// weights, latitudes, work, orders, concentrations, vectors.
     fn polar_cap(lmax) -> 6 = geopotential_polar_cap_lengths;
+    /// weights, latitudes, marks, s, c, work, matrix.
+    fn concentration_matrix(lmax, nodes) -> 7 = geopotential_concentration_matrix_lengths;
+    /// weights, latitudes, marks, s, c, work, concentrations, cs, ss.
+    fn region(lmax, nodes) -> 9 = geopotential_region_lengths;
 }
 
 /// bytes, c, s, head: by the file's head, whose own refusals come first.
@@ -127,6 +131,8 @@ mod tests {
         assert_eq!(householder_ql(3), Ok([9, 21, 3, 9]));
         assert_eq!(polar_cap(0), Ok([1, 2, 15, 1, 1, 1]));
         assert_eq!(polar_cap(2), Ok([3, 6, 95, 6, 6, 14]));
+        assert_eq!(concentration_matrix(1, 5), Ok([5, 10, 5, 15, 15, 9, 16]));
+        assert_eq!(region(1, 5), Ok([5, 10, 5, 15, 15, 93, 4, 12, 12]));
     }
 
     #[test]
@@ -167,5 +173,7 @@ mod tests {
         assert_eq!(symmetric_eigen(513), Err(Refusal::Size));
         assert_eq!(householder_ql(513), Err(Refusal::Size));
         assert_eq!(polar_cap(181), Err(Refusal::Size));
+        assert_eq!(concentration_matrix(22, 0), Err(Refusal::Size));
+        assert_eq!(region(21, 65_536), Err(Refusal::Size));
     }
 }

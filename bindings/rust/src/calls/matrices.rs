@@ -1,7 +1,8 @@
-//! Calls on symmetric matrices, and the functions of a polar cap.
+//! Calls on symmetric matrices, and the functions of a polar cap and of a region.
 
 use crate::Refusal;
 use crate::ffi::*;
+use crate::nodes::Nodes;
 
 pub fn symmetric_eigen(n: usize, a: &[f64], work: &mut [f64], values: &mut [f64], vectors: &mut [f64]) -> Result<(), Refusal> {
     // SAFETY: each list is one slice's; the last three are borrowed mutably.
@@ -70,6 +71,67 @@ pub fn polar_cap(
             concentrations.len(),
             vectors.as_mut_ptr(),
             vectors.len(),
+        )
+    })
+}
+
+pub fn concentration_matrix(nodes: &Nodes, work: &mut [f64], matrix: &mut [f64]) -> Result<(), Refusal> {
+    let Nodes { lmax, weights, latitudes, marks, s, c } = nodes;
+    // SAFETY: each list is one slice's; the last two are borrowed mutably.
+    Refusal::check(unsafe {
+        geopotential_concentration_matrix(
+            *lmax,
+            nodes.len(),
+            weights.as_ptr(),
+            weights.len(),
+            latitudes.as_ptr(),
+            latitudes.len(),
+            marks.as_ptr(),
+            marks.len(),
+            s.as_ptr(),
+            s.len(),
+            c.as_ptr(),
+            c.len(),
+            work.as_mut_ptr(),
+            work.len(),
+            matrix.as_mut_ptr(),
+            matrix.len(),
+        )
+    })
+}
+
+/// The functions of a region: concentrations, and for each function its cosine and its sine coefficients, as tables end to end.
+pub struct RankedTables<'a> {
+    pub concentrations: &'a mut [f64],
+    pub cs: &'a mut [f64],
+    pub ss: &'a mut [f64],
+}
+
+pub fn region(nodes: &Nodes, work: &mut [f64], RankedTables { concentrations, cs, ss }: &mut RankedTables) -> Result<(), Refusal> {
+    let Nodes { lmax, weights, latitudes, marks, s, c } = nodes;
+    // SAFETY: each list is one slice's; the last four are borrowed mutably.
+    Refusal::check(unsafe {
+        geopotential_region(
+            *lmax,
+            nodes.len(),
+            weights.as_ptr(),
+            weights.len(),
+            latitudes.as_ptr(),
+            latitudes.len(),
+            marks.as_ptr(),
+            marks.len(),
+            s.as_ptr(),
+            s.len(),
+            c.as_ptr(),
+            c.len(),
+            work.as_mut_ptr(),
+            work.len(),
+            concentrations.as_mut_ptr(),
+            concentrations.len(),
+            cs.as_mut_ptr(),
+            cs.len(),
+            ss.as_mut_ptr(),
+            ss.len(),
         )
     })
 }

@@ -22,4 +22,6 @@ unsafe extern "C" {
     pub fn geopotential_symmetric_eigen_lengths(n: usize, lengths: *mut usize, lengths_len: usize) -> u32;
     pub fn geopotential_householder_ql_lengths(n: usize, lengths: *mut usize, lengths_len: usize) -> u32;
     pub fn geopotential_polar_cap_lengths(lmax: usize, lengths: *mut usize, lengths_len: usize) -> u32;
+    pub fn geopotential_concentration_matrix_lengths(lmax: usize, nodes: usize, lengths: *mut usize, lengths_len: usize) -> u32;
+    pub fn geopotential_region_lengths(lmax: usize, nodes: usize, lengths: *mut usize, lengths_len: usize) -> u32;
 }

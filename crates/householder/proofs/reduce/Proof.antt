@@ -5,6 +5,7 @@ use Prim.Native.Nat.{_*_}
 use borrow.Author.Needs.{needs}
 use Rattle.householder.proofs.reduce.Statement.{statement}
 use Rattle.householder.proofs.reduce.Tie as tie
+use Rattle.storage.specs.Filled.{filled-self}
 use Rattle.matrix.specs.Layout.{kept-then, kept-from, filled-kept}
 use Rattle.householder.specs.Reduction.{Reduction}
 use Rattle.householder.specs.ReflectionLaws.{reduced, diagonal-of, subdiagonal-of, le-square}
@@ -27,7 +28,7 @@ returns c =
     let t = ap (λ (s : Reduction). s .matrix) e in (
       diagonal-of _ _ _ t (diagonal .ensures),
       (
-        subdiagonal-of _ _ _ t (subdiagonal .ensures),
+        filled-self (subdiagonal-of _ _ _ t (subdiagonal .ensures)),
         (
           ap (λ (s : Reduction). s .orthogonal) e,
           (

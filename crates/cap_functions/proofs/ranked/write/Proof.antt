@@ -9,7 +9,8 @@ use mathlib.Core.List.{List}
 use Rattle.storage.specs.Elements.{from}
 use Rattle.storage.specs.Filled.{Filled}
 use Rattle.ranking.specs.Rankings.{joined}
-use Rattle.cap_functions.specs.CapRanked.{runAt, ranked-in, picked-orders, picked-numbers}
+use Rattle.ranking.specs.RankedIn.{ranked-in}
+use Rattle.cap_functions.specs.CapRanked.{runAt, picked-orders, picked-numbers}
 use borrow.Author.Needs.{needs}
 use Rattle.cap_functions.proofs.ranked.write.Statement.{statement}
 use Rattle.cap_functions.proofs.ranked.write.Tie as tie

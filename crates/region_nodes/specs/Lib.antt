@@ -1,0 +1,7 @@
+pub mod Basis
+pub mod Regions
+pub mod Places
+pub mod Nodes
+pub mod NodeLaws
+pub mod Examples
+pub mod KernelRow
