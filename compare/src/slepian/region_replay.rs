@@ -32,7 +32,7 @@ fn ordinary(lmax: usize) -> Region {
 fn strange() -> Region {
     let mut nodes = ordinary(1).nodes;
     (nodes[0].weight, nodes[2].weight) = (1e-300, -0.0);
-    (nodes[0].s, nodes[0].c) = (vec![1.5e308, 1e308, 1.2e308], vec![-0.0, 0.0, -0.0]);
+    (nodes[0].s, nodes[0].c) = (vec![1.5e308, 1e308, -1.2e308], vec![-0.0, 0.0, -0.0]);
     (nodes[2].s, nodes[2].c) = (vec![f64::from_bits(3), f64::from_bits(1), -f64::from_bits(5)], vec![0.0, 1e-320, -1e-310]);
     Region { lmax: 1, nodes }
 }
