@@ -7,3 +7,4 @@ pub mod Points
 pub mod Tensors
 pub mod Analyses
 pub mod Lists
+pub mod Matrices

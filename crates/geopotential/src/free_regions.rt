@@ -7,10 +7,12 @@ ghost use Rattle.refusal.specs.Numbers.{after, behind, answerNumber};
 ghost use Rattle.storage.specs.Fill.{fill};
 ghost use Rattle.storage.specs.Rectangle.{byRows};
 ghost use Rattle.storage.specs.Triangle.{tableSize};
+ghost use Rattle.linalg.specs.Eigen.{eigenLimit};
+ghost use Rattle.linalg.specs.Solution.{settledNumber};
 ghost use Rattle.region_nodes.specs.Basis.{basisSize};
 ghost use Rattle.region_nodes.specs.Regions.{regionCell, concentrationMatrix};
 ghost use Rattle.regions.specs.Checks.{matrixCheck, Symmetric};
-ghost use Rattle.region.specs.Region.{regionWork, regionCheck, concentrationAt, numbersAt};
+ghost use Rattle.region.specs.Region.{regionWork, regionCheck, regionConvergence, concentrationAt, numbersAt};
 
 #[no_mangle]
 pub extern "C" fn geopotential_concentration_matrix(
@@ -64,6 +66,8 @@ pub extern "C" fn geopotential_region(
     concentrations: &mut [f64],
     cs: &mut [f64],
     ss: &mut [f64],
+    settled: &mut u32,
+    count: &mut usize,
 ) -> u32
     ensures { λ x. ⌜ x ≡ answerNumber (regionCheck lmax nodes (length (now (weights .entry))) (length (now (latitudes .entry)))
         (length (now (marks .entry))) (length (now (s .entry))) (length (now (c .entry))) (length (now (work .entry)))
@@ -103,8 +107,23 @@ pub extern "C" fn geopotential_region(
         (length (now (concentrations .entry))) (length (now (cs .entry))) (length (now (ss .entry))))
         (regionWork lmax) (now (work .entry)) ⌝ }
     ensures { λ x. ⌜ length (now (work .exit)) ≡ length (now (work .entry)) ⌝ }
+    ensures { λ x. ⌜ now (settled .exit) ≡ after
+        (regionCheck lmax nodes (length (now (weights .entry))) (length (now (latitudes .entry)))
+        (length (now (marks .entry))) (length (now (s .entry))) (length (now (c .entry))) (length (now (work .entry)))
+        (length (now (concentrations .entry))) (length (now (cs .entry))) (length (now (ss .entry))))
+        (settledNumber (regionConvergence lmax
+        (concentrationMatrix lmax (now (weights .entry)) (now (latitudes .entry)) (now (marks .entry)) (now (s .entry)) (now (c .entry)) nodes) .settled))
+        (now (settled .entry)) ⌝ }
+    ensures { λ x. ⌜ now (count .exit) ≡ after
+        (regionCheck lmax nodes (length (now (weights .entry))) (length (now (latitudes .entry)))
+        (length (now (marks .entry))) (length (now (s .entry))) (length (now (c .entry))) (length (now (work .entry)))
+        (length (now (concentrations .entry))) (length (now (cs .entry))) (length (now (ss .entry))))
+        (regionConvergence lmax
+        (concentrationMatrix lmax (now (weights .entry)) (now (latitudes .entry)) (now (marks .entry)) (now (s .entry)) (now (c .entry)) nodes) .count)
+        (now (count .entry)) ⌝ }
+    ensures { λ x. ⌜ (x ≡ 0 → now (count .exit) ≤ eigenLimit (basisSize lmax)) ⌝ }
 {
-    refusal::answer_number(region::region(
+    let ended = region::region(
         lmax,
         nodes,
         weights,
@@ -116,5 +135,6 @@ pub extern "C" fn geopotential_region(
         concentrations,
         cs,
         ss,
-    ))
+    );
+    crate::matrices::hand_on_convergence(ended, settled, count)
 }

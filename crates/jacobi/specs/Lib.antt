@@ -1,2 +1,3 @@
 pub mod Jacobi
 pub mod JacobiLaws
+pub mod SweepCounts

@@ -136,7 +136,7 @@ eigenLengths n = (n * n) ∷ (n * n + 4 * n) ∷ n ∷ (n * n) ∷ []
 
 -- weights, latitudes, work, orders, concentrations, vectors
 unfoldable pub capLengths : ℕ → List ℕ
-capLengths L = (L + 1) ∷ (L + 1 + (L + 1)) ∷ capWork L ∷ tableSize L ∷ tableSize L ∷ vectorsSize L ∷ []
+capLengths L = (L + 1) ∷ (L + 1 + (L + 1)) ∷ capWork L ∷ tableSize L ∷ tableSize L ∷ vectorsSize L ∷ ((L + 1) * 2) ∷ []
 
 -- ---- regions
 -- SIZE of the degree and of the nodes

@@ -328,7 +328,7 @@ pub fn householder_ql(n: usize, lengths: &mut [usize]) -> Answer
     leaves::matrices(n, lengths)
 }
 
-// `polar_cap`: weights, latitudes, work, orders, concentrations, vectors.
+// `polar_cap`: weights, latitudes, work, orders, concentrations, vectors, settled.
 pub fn polar_cap(lmax: usize, lengths: &mut [usize]) -> Answer
     ensures { λ x. ⌜ x ≡ lengthsCheck (sizeCheck 180 lmax) (capLengths lmax) (length (now (lengths .entry))) ⌝ }
     ensures { λ x. ⌜ now (lengths .exit) ≡ lengthsAfter (sizeCheck 180 lmax) (capLengths lmax) (now (lengths .entry)) ⌝ }
@@ -345,6 +345,7 @@ pub fn polar_cap(lmax: usize, lengths: &mut [usize]) -> Answer
         sizes.functions,
         sizes.functions,
         sizes.numbers,
+        count * 2,
     ];
     leaves::tell(&told, lengths)
 }

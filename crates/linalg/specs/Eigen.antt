@@ -10,10 +10,11 @@ use Rattle.refusal.specs.declared.Answer.the-variants.{Done}
 use Rattle.refusal.specs.declared.Refusal.the-variants.{Size, Length, Space}
 use Rattle.storage.specs.Tabulate.{tabulate}
 use Rattle.matrix.specs.Matrix.{diagonal}
-use Rattle.jacobi.specs.Jacobi.{jacobiValues, jacobiVectors}
+use Rattle.jacobi.specs.Jacobi.{jacobiValues, jacobiVectors, jacobiSweeps, jacobiSettled}
 use Rattle.householder.specs.Reduction.{Reduction, subdiagonalCell}
 use Rattle.householder.specs.Reduction.{tridiagonal as reduction}
-use Rattle.ql.specs.Ql.{Tridiagonal, tridiagonal, State, state, iteration, settledIn}
+use Rattle.ql.specs.Ql.{Tridiagonal, tridiagonal, State, state, iteration, settledIn, roundsIn}
+use Rattle.linalg.specs.declared.Convergence.{Convergence}
 
 -- the n numbers below the diagonal, the last of them 0
 unfoldable pub subdiagonal : ℕ → List Float → List Float
@@ -29,9 +30,6 @@ diagonalIn (state (tridiagonal d e q) k t) = d
 
 unfoldable pub productIn : State → List Float
 productIn (state (tridiagonal d e q) k t) = q
-
-unfoldable pub roundsIn : State → ℕ
-roundsIn (state m k t) = k
 
 -- the Householder reduction of the matrix a, and then the QL iteration
 unfoldable pub householderQl : ℕ → List Float → State
@@ -56,6 +54,23 @@ eigenValues n a = cond (ltb 32 n) (householderValues n a) (jacobiValues n a)
 
 unfoldable pub eigenVectors : ℕ → List Float → List Float
 eigenVectors n a = cond (ltb 32 n) (householderVectors n a) (jacobiVectors n a)
+
+-- how a solver ends: whether it settled, and its count
+abbrev pub convergence : Bool → ℕ → Convergence
+convergence settled count = record { settled = settled; count = count }
+
+unfoldable pub householderConvergence : ℕ → List Float → Convergence
+householderConvergence n a = convergence (householderSettled n a) (householderRounds n a)
+
+unfoldable pub jacobiConvergence : ℕ → List Float → Convergence
+jacobiConvergence n a = convergence (jacobiSettled n a) (jacobiSweeps n a)
+
+unfoldable pub eigenConvergence : ℕ → List Float → Convergence
+eigenConvergence n a = cond (ltb 32 n) (householderConvergence n a) (jacobiConvergence n a)
+
+-- the most that a count can be: 100 rounds for each of the n numbers, or 100 sweeps
+unfoldable pub eigenLimit : ℕ → ℕ
+eigenLimit n = cond (ltb 32 n) (100 * n) 100
 
 -- SIZE: n above 512; LENGTH: a matrix that has not exactly n * n numbers; SPACE: too short a working list, or one of the two lists of the answer
 unfoldable pub eigenCheck : ℕ → ℕ → ℕ → ℕ → ℕ → Answer

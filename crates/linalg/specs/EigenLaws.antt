@@ -18,11 +18,13 @@ use Rattle.matrix.specs.Matrix.{cell, diagonalCell, diagonal}
 use Rattle.matrix.specs.Layout.{flipped, transposed, Kept, kept-then, kept-from, filled-kept, filled-tabulate, filled-exchanged}
 use Rattle.householder.specs.Reduction.{subdiagonalCell}
 use Rattle.householder.specs.Reduction.{tridiagonal as reduction}
-use Rattle.ql.specs.Ql.{tridiagonal, state, iteration, settledIn}
+use Rattle.ql.specs.Ql.{tridiagonal, state, iteration, settledIn, roundsIn}
 use Rattle.ql.specs.QlLaws.{held, Counted}
-use Rattle.jacobi.specs.Jacobi.{jacobiValues, jacobiVectors}
-use Rattle.linalg.specs.Eigen.{subdiagonal, tridiagonalOf, diagonalIn, productIn, roundsIn, householderQl, householderValues, householderVectors}
+use Rattle.jacobi.specs.Jacobi.{jacobiValues, jacobiVectors, jacobiSweeps, jacobiSettled}
+use Rattle.linalg.specs.Eigen.{subdiagonal, tridiagonalOf, diagonalIn, productIn, householderQl, householderValues, householderVectors}
 use Rattle.linalg.specs.Eigen.{householderRounds, householderSettled, eigenValues, eigenVectors}
+use Rattle.linalg.specs.Eigen.{convergence, householderConvergence, jacobiConvergence, eigenConvergence}
+use Rattle.linalg.specs.declared.Convergence.{Convergence}
 use Rattle.linalg.specs.Sizes.{length-householder-values, length-householder-vectors, length-jacobi-values, length-jacobi-vectors}
 
 -- the front of a list that was filled there
@@ -61,13 +63,9 @@ module _ (n : ℕ) (a : List Float) where
 
   -- what is read of the lists after the iteration
   module _ (d e q : List Float) {k : ℕ} {met : Bool} (done : state (held n d e q) k met ≡ householderQl n a) where
-    pub solved-rounds : k ≡ householderRounds n a
-    unfolding householderRounds roundsIn
-    solved-rounds = ap roundsIn done
-
-    pub solved-settled : met ≡ householderSettled n a
-    unfolding householderSettled settledIn
-    solved-settled = ap settledIn done
+    pub solved-convergence : convergence met k ≡ householderConvergence n a
+    unfolding householderConvergence householderRounds householderSettled roundsIn settledIn
+    solved-convergence = ap₂ convergence (ap settledIn done) (ap roundsIn done)
 
     -- the part of the list that was lent is the diagonal
     pub solved-values : {values₀ values : List Float} → Filled 0 (diagonalCell n (reduction n a .matrix)) n values₀ values → n ≤ length values₀
@@ -113,3 +111,12 @@ module _ (n : ℕ) (a : List Float) {d l : List Float} where
       → Filled 0 (from 0 (eigenVectors n a) nan) (n * n) d l
   unfolding eigenVectors
   small-vectors h e b = rw (le-ltb 32 n h) (front-is (jacobiVectors n a) e (length-jacobi-vectors n a) b)
+
+module _ (n : ℕ) (a : List Float) where
+  pub large-convergence : {c : Convergence} → 32 < n → c ≡ householderConvergence n a → c ≡ eigenConvergence n a
+  unfolding eigenConvergence
+  large-convergence h e = rw (lt-ltb 32 n h) e
+
+  pub small-convergence : {met : Bool} {k : ℕ} → n ≤ 32 → k ≡ jacobiSweeps n a → met ≡ jacobiSettled n a → convergence met k ≡ eigenConvergence n a
+  unfolding eigenConvergence jacobiConvergence
+  small-convergence h p q = rw (le-ltb 32 n h) (ap₂ convergence q p)

@@ -17,7 +17,8 @@ use Rattle.matrix.specs.Layout.{flipped, plain, transposed, cell-transposed, fi
 use Rattle.householder_within.specs.Within.{back, back-behind}
 use Rattle.ql.specs.Ql.{state}
 use Rattle.ql.specs.QlLaws.{held}
-use Rattle.linalg.specs.Eigen.{productIn, householderQl, householderVectors, eigenValues, eigenVectors}
+use Rattle.linalg.specs.Eigen.{productIn, householderQl, householderVectors, eigenValues, eigenVectors, eigenConvergence}
+use Rattle.linalg.specs.declared.Convergence.{Convergence}
 use Rattle.linalg.specs.Sizes.{length-vectors}
 
 -- the columns of the matrix `vectors` stand behind the n by n matrix at the front of w, one after the other
@@ -66,6 +67,9 @@ module _ (n : ℕ) (w : List Float) {d a : List Float} (r : Filled 0 (from 0 w n
   pub apart-values : {values₀ values : List Float} → Filled 0 (from 0 (eigenValues n (take (n * n) a)) nan) n values₀ values
       → Filled 0 (from 0 (eigenValues n (plain n w)) nan) n values₀ values
   apart-values {values₀} {values} f = subst (λ (x : List Float). Filled 0 (from 0 (eigenValues n x) nan) n values₀ values) copied-front f
+
+  pub apart-convergence : {x : Convergence} → x ≡ eigenConvergence n (take (n * n) a) → x ≡ eigenConvergence n (plain n w)
+  apart-convergence e = e ∙ ap (eigenConvergence n) copied-front
 
   -- the vectors, turned to columns in the part of the list that was lent
   pub apart-vectors : (m : ℕ) (w′ : List Float) {vectors₀ vectors y : List Float}

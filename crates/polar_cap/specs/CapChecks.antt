@@ -16,7 +16,7 @@ use Rattle.polar_cap.specs.PolarCap.{vectorsSize, capWork, capCheck}
 use Rattle.cap_functions.specs.CapPlaces.{CapRoom}
 
 -- what passed checks tell: a record, whose fields `omega` finds
-pub record CapAccepted (L weights lats work orders concentrations vectors : ℕ) : Type 0 where
+pub record CapAccepted (L weights lats work orders concentrations vectors settled : ℕ) : Type 0 where
   pub top : L ≤ 180
   pub of-weights : weights ≡ L + 1
   pub of-latitudes : lats ≡ L + 1 + (L + 1)
@@ -24,19 +24,23 @@ pub record CapAccepted (L weights lats work orders concentrations vectors : ℕ)
   pub of-orders : tableSize L ≤ orders
   pub of-concentrations : tableSize L ≤ concentrations
   pub of-vectors : vectorsSize L ≤ vectors
+  pub of-settled : (L + 1) * 2 ≤ settled
 
-module _ (L weights lats work orders concentrations vectors : ℕ) where
+module _ (L weights lats work orders concentrations vectors settled : ℕ) where
   abbrev answer : Answer
-  answer = capCheck L weights lats work orders concentrations vectors
+  answer = capCheck L weights lats work orders concentrations vectors settled
 
-  -- what is left to check past the lengths
+  -- what is left to check past the concentrations, and past the lengths
+  abbrev outputs : Answer
+  outputs = refuse (ltb vectors (vectorsSize L)) Space (refuse (ltb settled ((L + 1) * 2)) Space Done)
+
   abbrev spaces : Answer
   spaces =
       refuse (ltb work (capWork L)) Space
       (refuse (ltb orders (tableSize L)) Space
-      (refuse (ltb concentrations (tableSize L)) Space (refuse (ltb vectors (vectorsSize L)) Space Done)))
+      (refuse (ltb concentrations (tableSize L)) Space outputs))
 
-  pub cap-accepted : Done ≡ answer → CapAccepted L weights lats work orders concentrations vectors
+  pub cap-accepted : Done ≡ answer → CapAccepted L weights lats work orders concentrations vectors settled
   unfolding capCheck
   cap-accepted h =
       let (p, h1) = past (ltb 180 L) Size _ h in
@@ -46,6 +50,7 @@ module _ (L weights lats work orders concentrations vectors : ℕ) where
       let (o, h5) = past (ltb orders (tableSize L)) Space _ h4 in
       let (c, h6) = past (ltb concentrations (tableSize L)) Space _ h5 in
       let (v, h7) = past (ltb vectors (vectorsSize L)) Space _ h6 in
+      let (t, h8) = past (ltb settled ((L + 1) * 2)) Space _ h7 in
       record {
         top = nltb→le 180 L p;
         of-weights = same weights (L + 1) q;
@@ -54,6 +59,7 @@ module _ (L weights lats work orders concentrations vectors : ℕ) where
         of-orders = nltb→le orders (tableSize L) o;
         of-concentrations = nltb→le concentrations (tableSize L) c;
         of-vectors = nltb→le vectors (vectorsSize L) v;
+        of-settled = nltb→le settled ((L + 1) * 2) t;
       }
 
   -- ---- the ways through them
@@ -84,7 +90,7 @@ module _ (L weights lats work orders concentrations vectors : ℕ) where
           short-orders h = past-lengths (pass _ (le-ltb work (capWork L) w) (stop _ _ (lt-ltb orders (tableSize L) h)))
 
           module _ (o : tableSize L ≤ orders) where
-            past-orders : {x : Answer} → x ≡ refuse (ltb concentrations (tableSize L)) Space (refuse (ltb vectors (vectorsSize L)) Space Done) → x ≡ answer
+            past-orders : {x : Answer} → x ≡ refuse (ltb concentrations (tableSize L)) Space outputs → x ≡ answer
             past-orders h = past-lengths (pass _ (le-ltb work (capWork L) w) (pass _ (le-ltb orders (tableSize L) o) h))
 
             pub short-concentrations : concentrations < tableSize L → Refused Space ≡ answer
@@ -94,12 +100,19 @@ module _ (L weights lats work orders concentrations vectors : ℕ) where
               pub short-vectors : vectors < vectorsSize L → Refused Space ≡ answer
               short-vectors h = past-orders (pass _ (le-ltb concentrations (tableSize L) c) (stop _ _ (lt-ltb vectors (vectorsSize L) h)))
 
-              pub all-passed : vectorsSize L ≤ vectors → Done ≡ answer
-              all-passed h =
-                  past-orders (pass _ (le-ltb concentrations (tableSize L) c) (pass _ (le-ltb vectors (vectorsSize L) h) refl))
+              module _ (v : vectorsSize L ≤ vectors) where
+                past-vectors : {x : Answer} → x ≡ refuse (ltb settled ((L + 1) * 2)) Space Done → x ≡ answer
+                past-vectors h = past-orders (pass _ (le-ltb concentrations (tableSize L) c) (pass _ (le-ltb vectors (vectorsSize L) v) h))
+
+                pub short-settled : settled < (L + 1) * 2 → Refused Space ≡ answer
+                short-settled h = past-vectors (stop _ _ (lt-ltb settled ((L + 1) * 2) h))
+
+                pub all-passed : (L + 1) * 2 ≤ settled → Done ≡ answer
+                all-passed h = past-vectors (pass _ (le-ltb settled ((L + 1) * 2) h) refl)
 
 -- the lists of an accepted call with the arrays beside them
-pub room-from : {L weights lats work orders concentrations vectors rescales g column : ℕ} → CapAccepted L weights lats work orders concentrations vectors
+pub room-from : {L weights lats work orders concentrations vectors settled rescales g column : ℕ}
+    → CapAccepted L weights lats work orders concentrations vectors settled
     → L < rescales → (L + 1) * (L + 1) ≤ g → L < column → CapRoom L weights lats rescales g column work orders concentrations vectors
 room-from a r g c = record {
   top = a .top;

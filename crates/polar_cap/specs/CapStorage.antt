@@ -12,6 +12,7 @@ use Rattle.storage.specs.Elements.{from}
 use Rattle.storage.specs.Fill.{fill}
 use Rattle.storage.specs.Filled.{Filled, filled, filled-in, filled-before, filled-after}
 use Rattle.storage.specs.Tabulate.{tabulate}
+use Rattle.storage.specs.Rectangle.{byRows}
 use Rattle.storage.specs.Triangle.{tableSize, along}
 use Rattle.recursion.specs.Recursion.{aCell, bCell}
 use Rattle.recursion.specs.Tables.{withTables}
@@ -19,7 +20,7 @@ use Rattle.matrix.specs.Matrix.{cell-within}
 use Rattle.matrix.specs.Layout.{Kept, filled-tabulate}
 use Rattle.caps.specs.Caps.{degrees}
 use Rattle.caps.specs.Columns.{TablesIn}
-use Rattle.polar_cap.specs.PolarCap.{coefficient, concentrationIn, vectorsSize, capWork, capOrders, capConcentrations, capVectors}
+use Rattle.polar_cap.specs.PolarCap.{toldOf, coefficient, concentrationIn, vectorsSize, capWork, capOrders, capConcentrations, capVectors}
 use Rattle.cap_functions.specs.CapPlaces.{functionsBefore, numbersBefore, concentrationsAt, vectorsAt, before, Order, Divided}
 
 -- l is d but for the indices lo .. hi - 1
@@ -197,8 +198,9 @@ kept-filled {F} {n} {d} {l} {l′} k r h =
     ∙ sym (filled-tabulate (filled 0 F n d refl) h))
 
 -- what an accepted call makes of its lists
-pub record CapMade (L : ℕ) (x₀ : Float) (weights lats w w′ o o′ c c′ v v′ : List Float) : Type 0 where
+pub record CapMade (L : ℕ) (x₀ : Float) (weights lats w w′ o o′ c c′ v v′ s s′ : List Float) : Type 0 where
   pub orders : Filled 0 (from 0 (capOrders L x₀ weights lats) nan) (tableSize L) o o′
   pub concentrations : Filled 0 (from 0 (capConcentrations L x₀ weights lats) nan) (tableSize L) c c′
   pub vectors : Filled 0 (from 0 (capVectors L x₀ weights lats) nan) (vectorsSize L) v v′
+  pub settled : Filled 0 (byRows (toldOf L x₀) 2) ((L + 1) * 2) s s′
   pub kept : Kept (capWork L) w w′

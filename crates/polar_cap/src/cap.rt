@@ -1,5 +1,6 @@
 // The Slepian functions of a polar cap, order by order. The tables of the recursion stand at the front of the working list, behind them the matrix of
 // one order, then the concentrations and the vectors of the orders so far.
+use linalg::Convergence;
 ghost use mathlib.Core.Path.{_≡_};
 ghost use Prim.Native.Nat.{_+_, _*_, _≤_, _<_};
 ghost use lib.ListN.{length};
@@ -15,7 +16,7 @@ ghost use Rattle.matrix.specs.Layout.{flipped, Kept};
 ghost use Rattle.caps.specs.Caps.{degrees};
 ghost use Rattle.caps.specs.Columns.{TablesIn};
 ghost use Rattle.caps.specs.Nodes.{NodeRoom, rescaleOf};
-ghost use Rattle.polar_cap.specs.PolarCap.{vectorsOf, concentrationIn, vectorsSize, capWork};
+ghost use Rattle.polar_cap.specs.PolarCap.{vectorsOf, convergenceOf, told, toldOf, concentrationIn, vectorsSize, capWork};
 ghost use Rattle.cap_functions.specs.CapPlaces.{concentrationsAt, vectorsAt, functionsBefore, numbersBefore, CapRoom};
 ghost use Rattle.polar_cap.specs.CapStorage.{Apart, Stored};
 
@@ -31,16 +32,16 @@ fn vectors_of(
     work: &mut [f64],
     values: &mut [f64],
     vectors: &mut [f64],
-)
+) -> Convergence
     requires { ⌜ m ≤ lmax ⌝ ∗ ⌜ k ≡ degrees lmax m ⌝ ∗ ⌜ lmax ≤ 180 ⌝ ∗ ⌜ k * k ≤ length (now g) ⌝ ∗ ⌜ at + (k * k + 4 * k) ≤ length (now work) ⌝ }
     requires { ⌜ k ≤ length (now values) ⌝ ∗ ⌜ k * k ≤ length (now vectors) ⌝ }
-    ensures { λ _. ⌜ Filled 0 (from 0 (vectorsOf lmax x0 m) nan) (k * k) (now (vectors .entry)) (now (vectors .exit)) ⌝
+    ensures { λ r. ⌜ Filled 0 (from 0 (vectorsOf lmax x0 m) nan) (k * k) (now (vectors .entry)) (now (vectors .exit)) ⌝
         ∗ ⌜ Kept k (now (values .entry)) (now (values .exit)) ⌝
-        ∗ ⌜ Apart at (at + (k * k + 4 * k)) (now (work .entry)) (now (work .exit)) ⌝ }
+        ∗ ⌜ Apart at (at + (k * k + 4 * k)) (now (work .entry)) (now (work .exit)) ⌝ ∗ ⌜ r ≡ convergenceOf lmax x0 m ⌝ }
 {
     let size = cap_functions::square(k);
     caps::grunbaum::grunbaum(m, k, lmax, x0, g);
-    linalg::eigen(k, &g[..size], &mut work[at..], values, vectors);
+    linalg::eigen(k, &g[..size], &mut work[at..], values, vectors)
 }
 
 // The concentrations of order m: Rayleigh's quotients of its vectors with its concentration matrix, which is made from index `at` of the working list
@@ -119,22 +120,22 @@ fn order(
     orders: &mut [f64],
     concentrations: &mut [f64],
     vectors: &mut [f64],
-)
+) -> Convergence
     requires { ⌜ m ≤ lmax ⌝ ∗ ⌜ sectoral ≡ pmm m ⌝ ∗ ⌜ start ≡ idx m m ⌝ ∗ ⌜ f ≡ concentrationsAt lmax + functionsBefore lmax m ⌝
         ∗ ⌜ v ≡ vectorsAt lmax + numbersBefore lmax m ⌝ }
     requires { ⌜ Filled 0 (rescaleOf (now latitudes) m) (lmax + 1) (now rescales) (now rescales) ⌝
         ∗ ⌜ Stored lmax x0 (now weights) (now latitudes) total m (now work) ⌝
         ∗ ⌜ CapRoom lmax (length (now weights)) (length (now latitudes)) (length (now rescales)) (length (now g)) (length (now column))
         (length (now work)) (length (now orders)) (length (now concentrations)) (length (now vectors)) ⌝ }
-    ensures { λ _. ⌜ Stored lmax x0 (now (weights .entry)) (now (latitudes .entry)) total (m + 1) (now (work .exit)) ⌝
+    ensures { λ r. ⌜ Stored lmax x0 (now (weights .entry)) (now (latitudes .entry)) total (m + 1) (now (work .exit)) ⌝
         ∗ ⌜ Kept (capWork lmax) (now (work .entry)) (now (work .exit)) ⌝ }
-    ensures { λ _. ⌜ Kept (tableSize lmax) (now (orders .entry)) (now (orders .exit)) ⌝
+    ensures { λ r. ⌜ Kept (tableSize lmax) (now (orders .entry)) (now (orders .exit)) ⌝
         ∗ ⌜ Kept (tableSize lmax) (now (concentrations .entry)) (now (concentrations .exit)) ⌝
-        ∗ ⌜ Kept (vectorsSize lmax) (now (vectors .entry)) (now (vectors .exit)) ⌝ }
+        ∗ ⌜ Kept (vectorsSize lmax) (now (vectors .entry)) (now (vectors .exit)) ⌝ ∗ ⌜ r ≡ convergenceOf lmax x0 m ⌝ }
 {
     let k = lmax - m + 1;
     let at = total + total;
-    vectors_of(m, k, lmax, at, x0, g, work, orders, vectors);
+    let ended = vectors_of(m, k, lmax, at, x0, g, work, orders, vectors);
     concentrations_of(
         m,
         k,
@@ -153,6 +154,17 @@ fn order(
         concentrations,
     );
     store(k, f, v, concentrations, vectors, work);
+    ended
+}
+
+// How the solver ended for order m, in two numbers.
+fn tell(m: usize, ended: Convergence, settled: &mut [f64])
+    requires { ⌜ m ≤ 180 ⌝ ∗ ⌜ ended .count ≤ 51200 ⌝ ∗ ⌜ m * 2 + 2 ≤ length (now settled) ⌝ }
+    ensures { λ _. ⌜ Filled (m * 2) (told ended) 2 (now (settled .entry)) (now (settled .exit)) ⌝ }
+{
+    let at = m * 2;
+    settled[at] = linalg::settled_number(ended.settled) as f64;
+    settled[at + 1] = ended.count as f64;
 }
 
 // All orders, from the tables at the front of the working list. The sectoral numbers and the powers of the nodes' cosines run along; `rescales`, g and
@@ -171,15 +183,18 @@ pub fn all_orders(
     orders: &mut [f64],
     concentrations: &mut [f64],
     vectors: &mut [f64],
+    settled: &mut [f64],
 )
     requires { ⌜ at ≡ concentrationsAt lmax ⌝ ∗ ⌜ TablesIn lmax total (now work) ⌝
         ∗ ⌜ CapRoom lmax (length (now weights)) (length (now latitudes)) (length (now rescales)) (length (now g)) (length (now column))
-        (length (now work)) (length (now orders)) (length (now concentrations)) (length (now vectors)) ⌝ }
+        (length (now work)) (length (now orders)) (length (now concentrations)) (length (now vectors)) ⌝
+        ∗ ⌜ (lmax + 1) * 2 ≤ length (now settled) ⌝ }
     ensures { λ _. ⌜ Stored lmax x0 (now (weights .entry)) (now (latitudes .entry)) total (lmax + 1) (now (work .exit)) ⌝
         ∗ ⌜ Kept (capWork lmax) (now (work .entry)) (now (work .exit)) ⌝ }
     ensures { λ _. ⌜ Kept (tableSize lmax) (now (orders .entry)) (now (orders .exit)) ⌝
         ∗ ⌜ Kept (tableSize lmax) (now (concentrations .entry)) (now (concentrations .exit)) ⌝
         ∗ ⌜ Kept (vectorsSize lmax) (now (vectors .entry)) (now (vectors .exit)) ⌝ }
+    ensures { λ _. ⌜ Filled 0 (byRows (toldOf lmax x0) 2) ((lmax + 1) * 2) (now (settled .entry)) (now (settled .exit)) ⌝ }
 {
     let count = lmax + 1;
     caps::nodes::first_rescales(count, rescales);
@@ -189,7 +204,7 @@ pub fn all_orders(
     let mut v = at + total;
     let mut m = 0;
     while m < count {
-        order(
+        let ended = order(
             m,
             lmax,
             start,
@@ -208,6 +223,7 @@ pub fn all_orders(
             concentrations,
             vectors,
         );
+        tell(m, ended, settled);
         caps::nodes::next_rescales(count, latitudes, rescales);
         let k = count - m;
         f = f + k;

@@ -4,15 +4,16 @@ mod polar;
 
 use refusal::Answer;
 ghost use mathlib.Core.Path.{_≡_};
-ghost use Prim.Native.Nat.{_≤_};
+ghost use Prim.Native.Nat.{_+_, _*_, _≤_};
 ghost use lib.ListN.{length};
 ghost use lib.Ieee.{nan};
 ghost use Rattle.refusal.specs.Numbers.{after, behind};
 ghost use Rattle.storage.specs.Elements.{from};
 ghost use Rattle.storage.specs.Fill.{fill};
+ghost use Rattle.storage.specs.Rectangle.{byRows};
 ghost use Rattle.storage.specs.Triangle.{tableSize};
 ghost use Rattle.cap_functions.specs.CapPlaces.{Sized};
-ghost use Rattle.polar_cap.specs.PolarCap.{capCheck, capWork, capOrders, capConcentrations, capVectors, vectorsSize};
+ghost use Rattle.polar_cap.specs.PolarCap.{toldOf, capCheck, capWork, capOrders, capConcentrations, capVectors, vectorsSize};
 
 // The highest degree of a cap's functions.
 pub const MAX_CAP: usize = 180;
@@ -44,7 +45,8 @@ pub fn cap_sizes(lmax: usize) -> Sizes
 }
 
 // The Slepian functions to degree lmax of the polar cap whose angle has this cosine, best concentrated first: their orders, their concentrations, and
-// their coefficients of P(l, m) for l = m to lmax, end to end. The weights and the latitudes are those of the nodes over the cap.
+// their coefficients of P(l, m) for l = m to lmax, end to end; and how the solver ended for each order m, two numbers by rising m: 1 where it
+// settled or 0, then its count. The weights and the latitudes are those of the nodes over the cap.
 pub fn polar_cap(
     lmax: usize,
     cosine: f64,
@@ -54,9 +56,10 @@ pub fn polar_cap(
     orders: &mut [f64],
     concentrations: &mut [f64],
     vectors: &mut [f64],
+    settled: &mut [f64],
 ) -> Answer
     ensures { λ x. ⌜ x ≡ capCheck lmax (length (now (weights .entry))) (length (now (latitudes .entry))) (length (now (work .entry)))
-        (length (now (orders .entry))) (length (now (concentrations .entry))) (length (now (vectors .entry))) ⌝ }
+        (length (now (orders .entry))) (length (now (concentrations .entry))) (length (now (vectors .entry))) (length (now (settled .entry))) ⌝ }
     ensures { λ x. ⌜ now (orders .exit) ≡ after x
         (fill 0 (from 0 (capOrders lmax cosine (now (weights .entry)) (now (latitudes .entry))) nan) (tableSize lmax) (now (orders .entry)))
         (now (orders .entry)) ⌝ }
@@ -67,6 +70,8 @@ pub fn polar_cap(
     ensures { λ x. ⌜ now (vectors .exit) ≡ after x
         (fill 0 (from 0 (capVectors lmax cosine (now (weights .entry)) (now (latitudes .entry))) nan) (vectorsSize lmax) (now (vectors .entry)))
         (now (vectors .entry)) ⌝ }
+    ensures { λ x. ⌜ now (settled .exit)
+        ≡ after x (fill 0 (byRows (toldOf lmax cosine) 2) ((lmax + 1) * 2) (now (settled .entry))) (now (settled .entry)) ⌝ }
     ensures { λ x. ⌜ behind x (capWork lmax) (now (work .exit)) ≡ behind x (capWork lmax) (now (work .entry)) ⌝
         ∗ ⌜ length (now (work .exit)) ≡ length (now (work .entry)) ⌝ }
 {
@@ -78,6 +83,7 @@ pub fn polar_cap(
         orders.len(),
         concentrations.len(),
         vectors.len(),
+        settled.len(),
     ) {
         Answer::Refused(e) => Answer::Refused(e),
         Answer::Done => {
@@ -90,6 +96,7 @@ pub fn polar_cap(
                 orders,
                 concentrations,
                 vectors,
+                settled,
             );
             Answer::Done
         }

@@ -2,7 +2,7 @@
 use refusal::Answer;
 use refusal::Refusal;
 ghost use mathlib.Core.Path.{_≡_};
-ghost use Prim.Native.Nat.{_+_, _≤_, _<_};
+ghost use Prim.Native.Nat.{_+_, _*_, _≤_, _<_};
 ghost use lib.ListN.{length};
 ghost use Rattle.storage.specs.Triangle.{tableSize};
 ghost use Rattle.polar_cap.specs.PolarCap.{capCheck};
@@ -19,8 +19,9 @@ pub fn cap_check(
     orders: usize,
     concentrations: usize,
     vectors: usize,
+    settled: usize,
 ) -> Answer
-    ensures { λ x. ⌜ x ≡ capCheck lmax weights latitudes work orders concentrations vectors ⌝ }
+    ensures { λ x. ⌜ x ≡ capCheck lmax weights latitudes work orders concentrations vectors settled ⌝ }
 {
     if lmax > crate::MAX_CAP {
         return Answer::Refused(Refusal::Size);
@@ -45,6 +46,9 @@ pub fn cap_check(
     if vectors < sizes.numbers {
         return Answer::Refused(Refusal::Space);
     }
+    if settled < count * 2 {
+        return Answer::Refused(Refusal::Space);
+    }
     Answer::Done
 }
 
@@ -65,14 +69,15 @@ fn cap_in(
     orders: &mut [f64],
     concentrations: &mut [f64],
     vectors: &mut [f64],
+    settled: &mut [f64],
 )
     requires { ⌜ CapRoom lmax (length (now weights)) (length (now latitudes)) (length (now rescales)) (length (now g)) (length (now column))
         (length (now work)) (length (now orders)) (length (now concentrations)) (length (now vectors)) ⌝ }
     requires { ⌜ tableSize lmax ≤ length (now order) ⌝ ∗ ⌜ tableSize lmax ≤ length (now starts) ⌝ ∗ ⌜ tableSize lmax ≤ length (now places) ⌝
-        ∗ ⌜ tableSize lmax ≤ length (now spare) ⌝ }
+        ∗ ⌜ tableSize lmax ≤ length (now spare) ⌝ ∗ ⌜ (lmax + 1) * 2 ≤ length (now settled) ⌝ }
     ensures { λ _. ⌜ CapMade lmax x0 (now (weights .entry)) (now (latitudes .entry)) (now (work .entry)) (now (work .exit))
         (now (orders .entry)) (now (orders .exit)) (now (concentrations .entry)) (now (concentrations .exit))
-        (now (vectors .entry)) (now (vectors .exit)) ⌝ }
+        (now (vectors .entry)) (now (vectors .exit)) (now (settled .entry)) (now (settled .exit)) ⌝ }
 {
     let sizes = crate::cap_sizes(lmax);
     let total = sizes.functions;
@@ -92,6 +97,7 @@ fn cap_in(
         orders,
         concentrations,
         vectors,
+        settled,
     );
     cap_functions::ranked::number_functions(lmax, at + total, order, starts);
     cap_functions::ranked::write(
@@ -119,12 +125,13 @@ fn cap_short(
     orders: &mut [f64],
     concentrations: &mut [f64],
     vectors: &mut [f64],
+    settled: &mut [f64],
 )
     requires { ⌜ CapAccepted lmax (length (now weights)) (length (now latitudes)) (length (now work)) (length (now orders))
-        (length (now concentrations)) (length (now vectors)) ⌝ ∗ ⌜ lmax < 16 ⌝ }
+        (length (now concentrations)) (length (now vectors)) (length (now settled)) ⌝ ∗ ⌜ lmax < 16 ⌝ }
     ensures { λ _. ⌜ CapMade lmax x0 (now (weights .entry)) (now (latitudes .entry)) (now (work .entry)) (now (work .exit))
         (now (orders .entry)) (now (orders .exit)) (now (concentrations .entry)) (now (concentrations .exit))
-        (now (vectors .entry)) (now (vectors .exit)) ⌝ }
+        (now (vectors .entry)) (now (vectors .exit)) (now (settled .entry)) (now (settled .exit)) ⌝ }
 {
     let mut rescales = [0.0; 16];
     let mut g = [0.0; 256];
@@ -149,6 +156,7 @@ fn cap_short(
         orders,
         concentrations,
         vectors,
+        settled,
     );
 }
 
@@ -162,12 +170,13 @@ fn cap_long(
     orders: &mut [f64],
     concentrations: &mut [f64],
     vectors: &mut [f64],
+    settled: &mut [f64],
 )
     requires { ⌜ CapAccepted lmax (length (now weights)) (length (now latitudes)) (length (now work)) (length (now orders))
-        (length (now concentrations)) (length (now vectors)) ⌝ }
+        (length (now concentrations)) (length (now vectors)) (length (now settled)) ⌝ }
     ensures { λ _. ⌜ CapMade lmax x0 (now (weights .entry)) (now (latitudes .entry)) (now (work .entry)) (now (work .exit))
         (now (orders .entry)) (now (orders .exit)) (now (concentrations .entry)) (now (concentrations .exit))
-        (now (vectors .entry)) (now (vectors .exit)) ⌝ }
+        (now (vectors .entry)) (now (vectors .exit)) (now (settled .entry)) (now (settled .exit)) ⌝ }
 {
     let mut rescales = [0.0; 181];
     let mut g = [0.0; 32761];
@@ -192,6 +201,7 @@ fn cap_long(
         orders,
         concentrations,
         vectors,
+        settled,
     );
 }
 
@@ -205,12 +215,13 @@ pub fn compute(
     orders: &mut [f64],
     concentrations: &mut [f64],
     vectors: &mut [f64],
+    settled: &mut [f64],
 )
     requires { ⌜ CapAccepted lmax (length (now weights)) (length (now latitudes)) (length (now work)) (length (now orders))
-        (length (now concentrations)) (length (now vectors)) ⌝ }
+        (length (now concentrations)) (length (now vectors)) (length (now settled)) ⌝ }
     ensures { λ _. ⌜ CapMade lmax x0 (now (weights .entry)) (now (latitudes .entry)) (now (work .entry)) (now (work .exit))
         (now (orders .entry)) (now (orders .exit)) (now (concentrations .entry)) (now (concentrations .exit))
-        (now (vectors .entry)) (now (vectors .exit)) ⌝ }
+        (now (vectors .entry)) (now (vectors .exit)) (now (settled .entry)) (now (settled .exit)) ⌝ }
 {
     if lmax < 16 {
         cap_short(
@@ -222,6 +233,7 @@ pub fn compute(
             orders,
             concentrations,
             vectors,
+            settled,
         );
         return;
     }
@@ -234,5 +246,6 @@ pub fn compute(
         orders,
         concentrations,
         vectors,
+        settled,
     );
 }

@@ -1,2 +1,3 @@
 pub mod Ql
 pub mod QlLaws
+pub mod RoundCounts

@@ -120,6 +120,9 @@ roundUnlessAlone n l (state t k met) = cond (eqb (endIn n l t) l) (state t k tru
 unfoldable pub settledIn : State → Bool
 settledIn (state t k met) = met
 
+unfoldable pub roundsIn : State → ℕ
+roundsIn (state t k met) = k
+
 -- at most 100 rounds for l
 unfoldable pub rounds : ℕ → ℕ → Tridiagonal → ℕ → State
 rounds n l t k = iterateUntil settledIn (roundUnlessAlone n l) 100 (state t k false)

@@ -14,7 +14,8 @@ use Rattle.number.specs.Float64.{zero64}
 use Rattle.storage.specs.Checks.{_andThen_}
 use Rattle.storage.specs.Triangle.{tableSize, along}
 use Rattle.matrix.specs.Matrix.{cell}
-use Rattle.linalg.specs.Eigen.{eigenValues, eigenVectors}
+use Rattle.linalg.specs.declared.Convergence.{Convergence}
+use Rattle.linalg.specs.Eigen.{eigenValues, eigenVectors, eigenConvergence}
 use Rattle.ranking.specs.Places.{rankedPlaces}
 use Rattle.region_nodes.specs.Basis.{basisSize, placeOf}
 use Rattle.regions.specs.Checks.{nodesCheck}
@@ -32,6 +33,10 @@ module _ (L : ℕ) (D : List Float) where
   unfoldable pub coefficientOf : Bool → ℕ → ℕ → ℕ → Float
   coefficientOf false k l m = cell (basisSize L) (eigenVectors (basisSize L) D) (placeOf l m false) k
   coefficientOf true k l m = cond (eqb m 0) zero64 (cell (basisSize L) (eigenVectors (basisSize L) D) (placeOf l m true) k)
+
+  -- how the solver ends
+  unfoldable pub regionConvergence : Convergence
+  regionConvergence = eigenConvergence (basisSize L) D
 
   -- the numbers of the function at rank i, as a table
   unfoldable pub numbersAt : Bool → ℕ → ℕ → Float

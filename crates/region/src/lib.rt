@@ -2,6 +2,7 @@
 mod functions;
 mod solve;
 
+use linalg::Solution;
 use refusal::Answer;
 use refusal::Refusal;
 ghost use mathlib.Core.Path.{_≡_};
@@ -12,9 +13,11 @@ ghost use Rattle.refusal.specs.Numbers.{after, behind};
 ghost use Rattle.storage.specs.Fill.{fill};
 ghost use Rattle.storage.specs.Rectangle.{byRows};
 ghost use Rattle.storage.specs.Triangle.{tableSize};
+ghost use Rattle.linalg.specs.Eigen.{eigenLimit};
+ghost use Rattle.linalg.specs.Solution.{outcome, solutionIf, countIn};
 ghost use Rattle.region_nodes.specs.Basis.{basisSize};
 ghost use Rattle.region_nodes.specs.Regions.{concentrationMatrix};
-ghost use Rattle.region.specs.Region.{regionWork, regionCheck, concentrationAt, numbersAt};
+ghost use Rattle.region.specs.Region.{regionWork, regionCheck, regionConvergence, concentrationAt, numbersAt};
 ghost use Rattle.region.specs.Storage.{Sized};
 
 // How many functions there are, how many numbers c each has and all have, and how much of the working list is used.
@@ -78,7 +81,8 @@ fn region_check(
 }
 
 // The Slepian functions of a region to degree lmax, best concentrated first: their concentrations, and their coefficients of P(l, m) cos mλ, in cs, and
-// of P(l, m) sin mλ, in ss, function after function, each as a table. The nodes are lent as to `concentration_matrix`.
+// of P(l, m) sin mλ, in ss, function after function, each as a table; and how the solver of its matrix ended. The nodes are lent as to
+// `concentration_matrix`.
 pub fn region(
     lmax: usize,
     nodes: usize,
@@ -91,26 +95,30 @@ pub fn region(
     concentrations: &mut [f64],
     cs: &mut [f64],
     ss: &mut [f64],
-) -> Answer
-    ensures { λ x. ⌜ x ≡ regionCheck lmax nodes (length (now (weights .entry))) (length (now (latitudes .entry))) (length (now (marks .entry)))
+) -> Solution
+    ensures { λ x. ⌜ x ≡ solutionIf
+        (regionCheck lmax nodes (length (now (weights .entry))) (length (now (latitudes .entry))) (length (now (marks .entry)))
         (length (now (s .entry))) (length (now (c .entry))) (length (now (work .entry))) (length (now (concentrations .entry)))
-        (length (now (cs .entry))) (length (now (ss .entry))) ⌝ }
-    ensures { λ x. ⌜ now (concentrations .exit) ≡ after x
+        (length (now (cs .entry))) (length (now (ss .entry))))
+        (regionConvergence lmax
+        (concentrationMatrix lmax (now (weights .entry)) (now (latitudes .entry)) (now (marks .entry)) (now (s .entry)) (now (c .entry)) nodes)) ⌝
+        ∗ ⌜ countIn x ≤ eigenLimit (basisSize lmax) ⌝ }
+    ensures { λ x. ⌜ now (concentrations .exit) ≡ after (outcome x)
         (fill 0 (concentrationAt lmax
         (concentrationMatrix lmax (now (weights .entry)) (now (latitudes .entry)) (now (marks .entry)) (now (s .entry)) (now (c .entry)) nodes))
         (basisSize lmax) (now (concentrations .entry)))
         (now (concentrations .entry)) ⌝ }
-    ensures { λ x. ⌜ now (cs .exit) ≡ after x
+    ensures { λ x. ⌜ now (cs .exit) ≡ after (outcome x)
         (fill 0 (byRows (numbersAt lmax
         (concentrationMatrix lmax (now (weights .entry)) (now (latitudes .entry)) (now (marks .entry)) (now (s .entry)) (now (c .entry)) nodes)
         false) (tableSize lmax)) (basisSize lmax * tableSize lmax) (now (cs .entry)))
         (now (cs .entry)) ⌝ }
-    ensures { λ x. ⌜ now (ss .exit) ≡ after x
+    ensures { λ x. ⌜ now (ss .exit) ≡ after (outcome x)
         (fill 0 (byRows (numbersAt lmax
         (concentrationMatrix lmax (now (weights .entry)) (now (latitudes .entry)) (now (marks .entry)) (now (s .entry)) (now (c .entry)) nodes)
         true) (tableSize lmax)) (basisSize lmax * tableSize lmax) (now (ss .entry)))
         (now (ss .entry)) ⌝ }
-    ensures { λ x. ⌜ behind x (regionWork lmax) (now (work .exit)) ≡ behind x (regionWork lmax) (now (work .entry)) ⌝
+    ensures { λ x. ⌜ behind (outcome x) (regionWork lmax) (now (work .exit)) ≡ behind (outcome x) (regionWork lmax) (now (work .entry)) ⌝
         ∗ ⌜ length (now (work .exit)) ≡ length (now (work .entry)) ⌝ }
 {
     match region_check(
@@ -126,22 +134,19 @@ pub fn region(
         cs.len(),
         ss.len(),
     ) {
-        Answer::Refused(e) => Answer::Refused(e),
-        Answer::Done => {
-            solve::compute(
-                lmax,
-                nodes,
-                weights,
-                latitudes,
-                marks,
-                s,
-                c,
-                work,
-                concentrations,
-                cs,
-                ss,
-            );
-            Answer::Done
-        }
+        Answer::Refused(e) => Solution::Refused(e),
+        Answer::Done => Solution::Solved(solve::compute(
+            lmax,
+            nodes,
+            weights,
+            latitudes,
+            marks,
+            s,
+            c,
+            work,
+            concentrations,
+            cs,
+            ss,
+        )),
     }
 }

@@ -1,4 +1,5 @@
 // The functions of a region whose sizes are accepted. The working list holds the matrix behind the room of three tables, and behind it the vectors.
+use linalg::Convergence;
 ghost use mathlib.Core.Path.{_≡_};
 ghost use mathlib.Core.Bool.{true, false};
 ghost use Prim.Native.Nat.{_+_, _*_, _≤_};
@@ -9,12 +10,12 @@ ghost use Rattle.storage.specs.Filled.{Filled};
 ghost use Rattle.storage.specs.Rectangle.{byRows};
 ghost use Rattle.storage.specs.Triangle.{tableSize};
 ghost use Rattle.matrix.specs.Layout.{Kept};
-ghost use Rattle.linalg.specs.Eigen.{eigenValues};
+ghost use Rattle.linalg.specs.Eigen.{eigenValues, eigenConvergence};
 ghost use Rattle.ranking.specs.Places.{rankedPlaces};
 ghost use Rattle.region_nodes.specs.Basis.{basisSize};
 ghost use Rattle.region_nodes.specs.Regions.{concentrationMatrix};
 ghost use Rattle.regions.specs.Nodes.{NodeLists};
-ghost use Rattle.region.specs.Region.{regionWork};
+ghost use Rattle.region.specs.Region.{regionWork, regionConvergence};
 ghost use Rattle.region.specs.RegionChecks.{RegionAccepted};
 ghost use Rattle.region.specs.Storage.{VectorsIn, RegionMade};
 ghost use Rattle.region.specs.Written.{pickedValue, pickedVector};
@@ -32,15 +33,17 @@ fn solve(
     c: &[f64],
     work: &mut [f64],
     values: &mut [f64],
-)
+) -> Convergence
     requires { ⌜ NodeLists lmax nodes (length (now weights)) (length (now latitudes)) (length (now marks)) (length (now s)) (length (now c)) ⌝
         ∗ ⌜ n ≡ basisSize lmax ⌝ ∗ ⌜ at ≡ 3 * tableSize lmax ⌝ ∗ ⌜ regionWork lmax ≤ length (now work) ⌝ ∗ ⌜ n ≤ length (now values) ⌝ }
-    ensures { λ _. ⌜ Filled 0 (from 0 (eigenValues n
+    ensures { λ r. ⌜ Filled 0 (from 0 (eigenValues n
         (concentrationMatrix lmax (now (weights .entry)) (now (latitudes .entry)) (now (marks .entry)) (now (s .entry)) (now (c .entry)) nodes)) nan) n
         (now (values .entry)) (now (values .exit)) ⌝ }
-    ensures { λ _. ⌜ VectorsIn n (at + n * n)
+    ensures { λ r. ⌜ VectorsIn n (at + n * n)
         (concentrationMatrix lmax (now (weights .entry)) (now (latitudes .entry)) (now (marks .entry)) (now (s .entry)) (now (c .entry)) nodes)
         (now (work .exit)) ⌝ ∗ ⌜ Kept (regionWork lmax) (now (work .entry)) (now (work .exit)) ⌝ }
+    ensures { λ r. ⌜ r ≡ eigenConvergence n
+        (concentrationMatrix lmax (now (weights .entry)) (now (latitudes .entry)) (now (marks .entry)) (now (s .entry)) (now (c .entry)) nodes) ⌝ }
 {
     regions::whole::fill_matrix(
         lmax,
@@ -52,7 +55,7 @@ fn solve(
         c,
         &mut work[at..],
     );
-    linalg::within::eigen_within(n, &mut work[at..], values);
+    linalg::within::eigen_within(n, &mut work[at..], values)
 }
 
 // The functions ranked by the values, and written in that order.
@@ -97,20 +100,22 @@ pub fn compute(
     concentrations: &mut [f64],
     cs: &mut [f64],
     ss: &mut [f64],
-)
+) -> Convergence
     requires { ⌜ RegionAccepted lmax nodes (length (now weights)) (length (now latitudes)) (length (now marks)) (length (now s)) (length (now c))
         (length (now work)) (length (now concentrations)) (length (now cs)) (length (now ss)) ⌝ }
-    ensures { λ _. ⌜ RegionMade lmax
+    ensures { λ r. ⌜ RegionMade lmax
         (concentrationMatrix lmax (now (weights .entry)) (now (latitudes .entry)) (now (marks .entry)) (now (s .entry)) (now (c .entry)) nodes)
         (now (work .entry)) (now (work .exit)) (now (concentrations .entry)) (now (concentrations .exit)) (now (cs .entry)) (now (cs .exit))
         (now (ss .entry)) (now (ss .exit)) ⌝ }
+    ensures { λ r. ⌜ r ≡ regionConvergence lmax
+        (concentrationMatrix lmax (now (weights .entry)) (now (latitudes .entry)) (now (marks .entry)) (now (s .entry)) (now (c .entry)) nodes) ⌝ }
 {
     let sizes = crate::region_sizes(lmax);
     let n = sizes.functions;
     let table = sizes.table;
     let at = 3 * table;
     let mut values = [0.0; 484];
-    solve(
+    let ended = solve(
         lmax,
         nodes,
         n,
@@ -134,4 +139,5 @@ pub fn compute(
         cs,
         ss,
     );
+    ended
 }

@@ -10,3 +10,4 @@ pub mod Triangle
 pub mod Rectangle
 pub mod Answers
 pub mod Checks
+pub mod Counted

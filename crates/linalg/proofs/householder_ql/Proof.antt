@@ -6,6 +6,8 @@ use borrow.Author.Needs.{needs}
 use Rattle.refusal.specs.declared.Answer.the-variants.{Done}
 use Rattle.linalg.specs.Eigen.{eigenCheck}
 use Rattle.linalg.specs.Checks.{accepted}
+use Rattle.linalg.specs.Solution.{solution-refused, solution-solved, count-within}
+use Rattle.linalg.specs.Limits.{householder-limit}
 use Rattle.linalg.proofs.householder_ql.Statement.{statement}
 use Rattle.linalg.proofs.householder_ql.Tie as tie
 
@@ -21,13 +23,23 @@ reduce-and-iterate-requires c κs =
     (omega arith, (omega arith, (omega arith, (omega arith, omega arith))))
 
 returns : tie.Need-returns
-returns c = (sym (c .before .e .given .1) ∙ c .before .before .before .eigen-check .ensures, (refl, (refl, (refl, refl))))
+returns c = (
+  solution-refused _ _ (sym (c .before .e .given .1) ∙ c .before .before .before .eigen-check .ensures),
+  (omega arith, (refl, (refl, (refl, refl)))),
+)
 
 returns-2 : tie.Need-returns-2
 returns-2 c =
     let p = c .before .before .before .before .before .before in
     let made = p .reduce-and-iterate .ensures in
-    (done (p .before .before .before .before), (made .0 .is, (made .1 .0 .is, (made .1 .1 .0 .behind, made .1 .1 .0 .long))))
+    let a = p .before .before .before .before .before .before .before .before .before .before .before .args in
+    let is = made .1 .1 .1 in (
+      solution-solved (done (p .before .before .before .before)) is,
+      (
+        count-within is (householder-limit (a .n) (a .a .now)),
+        (made .0 .is, (made .1 .0 .is, (made .1 .1 .0 .behind, made .1 .1 .0 .long))),
+      ),
+    )
 
 pub householder-ql-spec : {M : Type 1} → statement M
 householder-ql-spec =

@@ -6,7 +6,7 @@ use lib.Seq.{length-take-le}
 use borrow.Author.Needs.{needs}
 use Rattle.storage.specs.Filled.{filled-to}
 use Rattle.matrix.specs.Layout.{kept-then}
-use Rattle.linalg.specs.EigenLaws.{iterated, lent-kept, solved-rounds, solved-settled, solved-values, solved-vectors, work-kept}
+use Rattle.linalg.specs.EigenLaws.{iterated, lent-kept, solved-convergence, solved-values, solved-vectors, work-kept}
 use Rattle.linalg.proofs.reduce_and_iterate.Statement.{statement}
 use Rattle.linalg.proofs.reduce_and_iterate.Tie as tie
 
@@ -75,7 +75,7 @@ returns c =
             (kept-then (made .1 .1 .1 .1) (it .kept .of-q)) (omega arith) (omega arith),
         (
           work-kept (a .n) e (made .1 .1 .1 .0) (t .transpose .ensures) (it .kept .of-e) (omega arith),
-          (solved-rounds (a .n) (a .a .now) d e q done, solved-settled (a .n) (a .a .now) d e q done),
+          solved-convergence (a .n) (a .a .now) d e q done,
         ),
       ),
     )

@@ -7,7 +7,7 @@ use lib.Seq.{length-take-le}
 use borrow.Author.Needs.{needs}
 use Rattle.matrix.specs.Layout.{kept-then, kept-from, filled-kept}
 use Rattle.householder_within.specs.Within.{back, back-long, lent-long, back-kept}
-use Rattle.linalg.specs.Within.{short-square, apart-values, apart-vectors}
+use Rattle.linalg.specs.Within.{short-square, apart-values, apart-vectors, apart-convergence}
 use Rattle.linalg.proofs.within.eigen_apart.Statement.{statement}
 use Rattle.linalg.proofs.within.eigen_apart.Tie as tie
 
@@ -49,7 +49,7 @@ transpose-requires c κs =
     let start = c .before .before .before .before .before .before .before .before .before .before .before .before .before .before .before .before .before .before in
     let n = start .args .n in
     let w = start .args .w .now in
-    let (values, (vectors, kept)) = eigen .ensures in
+    let (values, (vectors, (kept, ended))) = eigen .ensures in
     let m = length w - n * n in
     let w₁ = back (n * n) m w (eigen .last .1 .1 .0) in
     let long = back-long (n * n) m w (eigen .last .1 .1 .0) refl (omega (arith, start .pre)) (kept .long) in
@@ -67,7 +67,7 @@ returns c =
     let n = start .args .n in
     let w = start .args .w .now in
     let short = short-square n (start .pre .0) in
-    let (values, (vectors, kept)) = eigen .ensures in
+    let (values, (vectors, (kept, ended))) = eigen .ensures in
     let y = eigen .last .1 .1 .0 in
     let z = transpose .last .1 .1 .0 in
     let m = length w - n * n in
@@ -80,9 +80,12 @@ returns c =
       (
         apart-vectors n w (copy .copy .ensures) short m₁ w₁ vectors short (transpose .ensures) refl inside₁
             (omega (arith, start .pre, long, lent-long (n * n) m₁ w₁ refl)),
-        kept-then (back-kept (n * n) m w y refl inside (kept .long) (n * n + 4 * n) kept)
-            (kept-from (n * n + (n * n + 4 * n)) (omega arith)
-            (back-kept (n * n) m₁ w₁ z refl inside₁ (transpose .ensures .long) (n * n) (filled-kept (transpose .ensures)))),
+        (
+          kept-then (back-kept (n * n) m w y refl inside (kept .long) (n * n + 4 * n) kept)
+              (kept-from (n * n + (n * n + 4 * n)) (omega arith)
+              (back-kept (n * n) m₁ w₁ z refl inside₁ (transpose .ensures .long) (n * n) (filled-kept (transpose .ensures)))),
+          apart-convergence n w (copy .copy .ensures) short ended,
+        ),
       ),
     )
 

@@ -7,7 +7,7 @@ use lib.Seq.{length-take-le}
 use borrow.Author.Needs.{needs}
 use Rattle.matrix.specs.Layout.{plain, transposed, kept-then, kept-from}
 use Rattle.householder_within.specs.Within.{lent-whole, lent-long, back-kept}
-use Rattle.linalg.specs.EigenLaws.{iterated, solved-values}
+use Rattle.linalg.specs.EigenLaws.{iterated, solved-convergence, solved-values}
 use Rattle.linalg.specs.Within.{solved-behind}
 use Rattle.linalg.proofs.within.reduce_and_iterate_within.Statement.{statement}
 use Rattle.linalg.proofs.within.reduce_and_iterate_within.Tie as tie
@@ -69,8 +69,11 @@ returns c =
       solved-values n a d e q done (made .0) (omega arith),
       (
         solved-behind n m w a d e q done refl inside (it .kept .of-q .long),
-        kept-then (kept-from (n * n + (n * n + 4 * n)) (omega arith) (made .1 .1 .1))
-            (kept-from (n * n + (n * n + 4 * n)) (omega arith) (back-kept (n * n) m w q refl inside (it .kept .of-q .long) (n * n) (it .kept .of-q))),
+        (
+          kept-then (kept-from (n * n + (n * n + 4 * n)) (omega arith) (made .1 .1 .1))
+              (kept-from (n * n + (n * n + 4 * n)) (omega arith) (back-kept (n * n) m w q refl inside (it .kept .of-q .long) (n * n) (it .kept .of-q))),
+          solved-convergence n a d e q done,
+        ),
       ),
     )
 
