@@ -315,18 +315,20 @@ eigen-enough n a work values vectors ok e =
     matrices.all-passed n a work values vectors (within 512 n ok) p (omega arith) (omega arith) (omega arith)
 
 -- `polar_cap`
-pub cap-enough : (L weights lats work orders concentrations vectors : ℕ) → Done ≡ sizeCheck 180 L
-    → weights ∷ lats ∷ work ∷ orders ∷ concentrations ∷ vectors ∷ [] ≡ capLengths L
-    → Done ≡ capCheck L weights lats work orders concentrations vectors
+pub cap-enough : (L weights lats work orders concentrations vectors settled : ℕ) → Done ≡ sizeCheck 180 L
+    → weights ∷ lats ∷ work ∷ orders ∷ concentrations ∷ vectors ∷ settled ∷ [] ≡ capLengths L
+    → Done ≡ capCheck L weights lats work orders concentrations vectors settled
 unfolding capLengths
-cap-enough L weights lats work orders concentrations vectors ok e =
+cap-enough L weights lats work orders concentrations vectors settled ok e =
     let p : weights ≡ L + 1 = cc in
     let q : lats ≡ L + 1 + (L + 1) = cc in
     let w : work ≡ capWork L = cc in
     let o : orders ≡ tableSize L = cc in
     let k : concentrations ≡ tableSize L = cc in
     let v : vectors ≡ vectorsSize L = cc in
-    caps.all-passed L weights lats work orders concentrations vectors (within 180 L ok) p q (omega arith) (omega arith) (omega arith) (omega arith)
+    let t : settled ≡ (L + 1) * 2 = cc in
+    caps.all-passed L weights lats work orders concentrations vectors settled (within 180 L ok) p q (omega arith) (omega arith) (omega arith)
+    (omega arith) (omega arith)
 
 -- `concentration_matrix`
 pub matrix-enough : (L nodes weights lats marks s c work matrix : ℕ) → Done ≡ regionSizes L nodes

@@ -158,10 +158,10 @@ gauss-limit n guesses x w bad = gauss-size n guesses x w (beyond 2701 n bad)
 pub eigen-limit : (n a work values vectors : ℕ) → Refused Size ≡ sizeCheck 512 n → Refused Size ≡ eigenCheck n a work values vectors
 eigen-limit n a work values vectors bad = too-large n a work values vectors (beyond 512 n bad)
 
-pub cap-limit : (L weights lats work orders concentrations vectors : ℕ) → Refused Size ≡ sizeCheck 180 L
-    → Refused Size ≡ capCheck L weights lats work orders concentrations vectors
-cap-limit L weights lats work orders concentrations vectors bad =
-    caps.large-degree L weights lats work orders concentrations vectors (beyond 180 L bad)
+pub cap-limit : (L weights lats work orders concentrations vectors settled : ℕ) → Refused Size ≡ sizeCheck 180 L
+    → Refused Size ≡ capCheck L weights lats work orders concentrations vectors settled
+cap-limit L weights lats work orders concentrations vectors settled bad =
+    caps.large-degree L weights lats work orders concentrations vectors settled (beyond 180 L bad)
 
 nodes-limit : (L count weights lats marks s c : ℕ) → Refused Size ≡ regionSizes L count → Refused Size ≡ nodesCheck L count weights lats marks s c
 nodes-limit L count weights lats marks s c bad =

@@ -13,13 +13,15 @@ use Rattle.storage.specs.Triangle.{tableSize}
 use Rattle.matrix.specs.Matrix.{cell, matrixOf, cell-within}
 use Rattle.matrix.specs.Layout.{flipped, plain, transposed, Kept, kept-then, kept-from, filled-kept, filled-plain, filled-transposed}
 use Rattle.householder_within.specs.Within.{Mirrored, back, back-behind, back-long, back-kept, lent-whole, lent-long}
-use Rattle.linalg.specs.Eigen.{eigenValues, eigenVectors}
+use Rattle.linalg.specs.declared.Convergence.{Convergence}
+use Rattle.linalg.specs.Eigen.{eigenValues, eigenVectors, eigenConvergence, eigenLimit}
+use Rattle.linalg.specs.Limits.{eigen-limit}
 use Rattle.linalg.specs.Within.{VectorsBehind}
 use Rattle.region_nodes.specs.Basis.{basisSize}
 use Rattle.region_nodes.specs.Regions.{regionCell, concentrationMatrix}
 use Rattle.region_nodes.specs.NodeLaws.{degree-within}
 use Rattle.regions.specs.Symmetry.{matrix-flipped}
-use Rattle.region.specs.Region.{regionWork}
+use Rattle.region.specs.Region.{regionWork, regionConvergence}
 use Rattle.region.specs.Storage.{VectorsIn}
 
 -- the tail holds the matrix, the vectors and the solver's numbers: a record, whose fields `omega` finds
@@ -87,6 +89,9 @@ module _ (L : ℕ) (weights lats : List Float) (marks : List ℕ) (s c : List Fl
       → Filled 0 (from 0 (eigenValues n D) nan) n d v
   solved-values {d} {v} r = subst (λ (x : List Float). Filled 0 (from 0 (eigenValues n x) nan) n d v) tail-plain r
 
+  pub solved-convergence : {x : Convergence} → x ≡ eigenConvergence n (plain n (take m₁ (drop at w₁))) → x ≡ eigenConvergence n D
+  solved-convergence e = e ∙ ap (eigenConvergence n) tail-plain
+
   module _ {z : List Float} (kept : Kept (n * n + (n * n + 4 * n)) (take m₁ (drop at w₁)) z) where
     inside₁ : at ≤ length w₁
     inside₁ = omega (arith, inside, matrix-long)
@@ -112,3 +117,12 @@ module _ (L : ℕ) (weights lats : List Float) (marks : List ℕ) (s c : List Fl
         kept-then
         (kept-from (regionWork L) (omega (arith, room)) (back-kept at m w y em inside (made .long) (n * n) (filled-kept matrix-in)))
         (kept-from (regionWork L) (room .used) (back-kept at m₁ w₁ z refl inside₁ (kept .long) (n * n + (n * n + 4 * n)) kept))
+
+-- in the words of the call
+pub region-convergence : (L : ℕ) (D : List Float) {n : ℕ} {x : Convergence} → n ≡ basisSize L → x ≡ eigenConvergence n D → x ≡ regionConvergence L D
+unfolding regionConvergence
+region-convergence L D en e = e ∙ ap (λ (k : ℕ). eigenConvergence k D) en
+
+pub region-limit : (L : ℕ) (D : List Float) → regionConvergence L D .count ≤ eigenLimit (basisSize L)
+unfolding regionConvergence
+region-limit L D = eigen-limit (basisSize L) D

@@ -6,7 +6,7 @@ use borrow.Author.Needs.{needs}
 use mathlib.Core.Bool.{true, false}
 use Rattle.region_nodes.specs.Regions.{concentrationMatrix}
 use Rattle.region.specs.Storage.{products}
-use Rattle.region.specs.RegionSolve.{solve-room}
+use Rattle.region.specs.RegionSolve.{solve-room, region-convergence}
 use Rattle.region.specs.RegionAnswer.{concentrations-are, numbers-are}
 use Rattle.region.proofs.solve.compute.Statement.{statement}
 use Rattle.region.proofs.solve.compute.Tie as tie
@@ -57,7 +57,7 @@ write-requires c κs =
           (
             omega (arith, z .few, done .0 .long),
             (
-              omega (arith, r .long, done .1 .1 .long),
+              omega (arith, r .long, done .1 .1 .0 .long),
               (
                 omega (
                   arith,
@@ -86,16 +86,18 @@ returns c =
     let done = solve .ensures in
     let written = write .ensures in
     let D = concentrationMatrix (start .args .lmax) (start .args .weights .now) (start .args .latitudes .now) (start .args .marks .now) (start .args
-    .s .now) (start .args .c .now) (start .args .nodes) in
-    record {
-      concentrations = concentrations-are (start .args .lmax) D (z .of-functions) (a .lists .top) (done .0) (z .few) (written .0);
-      cosines =
-          numbers-are (start .args .lmax) D (z .of-functions) (a .lists .top) (done .0) (z .few) false (done .1 .0) (z .of-table) (written .1 .0);
-      sines =
-          numbers-are (start .args .lmax) D (z .of-functions) (a .lists .top) (done .0) (z .few) true (done .1 .0) (z .of-table) (written .1 .1);
-      kept =
-          done .1 .1;
-    }
+    .s .now) (start .args .c .now) (start .args .nodes) in (
+      record {
+        concentrations = concentrations-are (start .args .lmax) D (z .of-functions) (a .lists .top) (done .0) (z .few) (written .0);
+        cosines =
+            numbers-are (start .args .lmax) D (z .of-functions) (a .lists .top) (done .0) (z .few) false (done .1 .0) (z .of-table) (written .1 .0);
+        sines =
+            numbers-are (start .args .lmax) D (z .of-functions) (a .lists .top) (done .0) (z .few) true (done .1 .0) (z .of-table) (written .1 .1);
+        kept =
+            done .1 .1 .0;
+      },
+      region-convergence (start .args .lmax) D (z .of-functions) (done .1 .1 .1),
+    )
 
 pub compute-spec : {M : Type 1} → statement M
 compute-spec =

@@ -5,7 +5,7 @@ use Prim.Native.Nat.{ℕ, _-_, _*_}
 use lib.ListN.{length}
 use borrow.Author.Needs.{needs}
 use Rattle.householder_within.specs.Within.{back, lent-long}
-use Rattle.region.specs.RegionSolve.{SolveRoom, solve-room, matrix-long, tail-long, tail-mirrored, solved-values, solved-vectors, solved-kept}
+use Rattle.region.specs.RegionSolve.{SolveRoom, solve-room, matrix-long, tail-long, tail-mirrored, solved-values, solved-vectors, solved-convergence, solved-kept}
 use Rattle.region.proofs.solve.solve.Statement.{statement}
 use Rattle.region.proofs.solve.solve.Tie as tie
 
@@ -86,10 +86,12 @@ returns c =
     let values = solved-values (a .lmax) (a .weights .now) (a .latitudes .now) (a .marks .now) (a .s .now) (a .c .now) (a .nodes) (a .work .now)
     (start .pre .1 .0) r refl made (done .0) in
     let vectors = solved-vectors (a .lmax) (a .weights .now) (a .latitudes .now) (a .marks .now) (a .s .now) (a .c .now) (a .nodes) (a .work .now)
-    (start .pre .1 .0) r refl made (done .1 .1) (done .1 .0) in
+    (start .pre .1 .0) r refl made (done .1 .1 .0) (done .1 .0) in
     let kept = solved-kept (a .lmax) (a .weights .now) (a .latitudes .now) (a .marks .now) (a .s .now) (a .c .now) (a .nodes) (a .work .now)
-    (start .pre .1 .0) r refl made (done .1 .1) in
-    (values, (vectors, kept))
+    (start .pre .1 .0) r refl made (done .1 .1 .0) in
+    let ended = solved-convergence (a .lmax) (a .weights .now) (a .latitudes .now) (a .marks .now) (a .s .now) (a .c .now) (a .nodes) (a .work .now)
+    (start .pre .1 .0) r refl made (done .1 .1 .1) in
+    (values, (vectors, (kept, ended)))
 
 pub solve-spec : {M : Type 1} → statement M
 solve-spec =
