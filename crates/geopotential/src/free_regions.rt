@@ -1,7 +1,7 @@
 // The concentration matrix of a region of any shape, and its Slepian functions.
 ghost use mathlib.Core.Path.{_≡_};
 ghost use mathlib.Core.Bool.{true, false};
-ghost use Prim.Native.Nat.{_*_};
+ghost use Prim.Native.Nat.{_*_, _≤_};
 ghost use lib.ListN.{length};
 ghost use Rattle.refusal.specs.Numbers.{after, behind, answerNumber};
 ghost use Rattle.storage.specs.Fill.{fill};

@@ -15,7 +15,8 @@ ghost use Rattle.geopotential.specs.Matrices.{settledAfter, countAfter};
 // Hands on through `settled` and `count` how a solver ended, which a refusal leaves alone; answers 0 or the number of the refusal.
 pub fn hand_on_convergence(a: Solution, settled: &mut u32, count: &mut usize) -> u32
     ensures { λ r. ⌜ r ≡ solutionNumber a ⌝ }
-    ensures { λ r. ⌜ now (settled .exit) ≡ settledAfter a (now (settled .entry)) ⌝ ∗ ⌜ now (count .exit) ≡ countAfter a (now (count .entry)) ⌝ }
+    ensures { λ r. ⌜ now (settled .exit) ≡ settledAfter a (now (settled .entry)) ⌝ }
+    ensures { λ r. ⌜ now (count .exit) ≡ countAfter a (now (count .entry)) ⌝ }
 {
     match a {
         Solution::Solved(c) => {
