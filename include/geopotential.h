@@ -28,7 +28,7 @@ extern "C" {
 
 /* The version of these entries, raised wherever an entry's parameters or the meaning of its answer change. A build compares the two:
  * an object compiled against another header would link, and pass wrong parameters. */
-#define GEOPOTENTIAL_VERSION 2
+#define GEOPOTENTIAL_VERSION 3
 uint32_t geopotential_version(void);
 
 /* What a call answers. */
@@ -200,20 +200,28 @@ uint32_t geopotential_analysis(uint32_t functional, const double *love, size_t l
 
 /* ---- eigenvalues, caps, regions and basins */
 
-/* The eigenvalues of a symmetric n by n matrix, in no order, and its eigenvectors as columns. One that has not settled is still answered. a: n^2;
- * work: n^2 + 4n; values: n; vectors: n^2. Refused by 1 (n above 512), 2, 3. */
+/* The eigenvalues of a symmetric n by n matrix, in no order, and its eigenvectors as columns: up to n = 32 by Jacobi rotations, above it by
+ * householder_ql. a: n^2; work: n^2 + 4n; values: n; vectors: n^2.
+ *
+ * *settled is 1 or 0 and *count tells the steps. The rotations settle where the test before one of their hundred sweeps passes; count is the sweeps
+ * done, at most 100. The iteration settles where each of the n numbers meets its stopping test within its hundred rounds; count is the rounds of
+ * all, at most 100n. The answer is written in either case. Neither is an error bound: settled does not mean right (1, 1e200; 1e200, 1 settles after
+ * 0 sweeps with its diagonal: its squares overflow), nor 0 wrong (eigenvalues that cluster at 0 keep the test from passing).
+ * Refused by 1 (n above 512), 2, 3; *settled and *count are left alone on a refusal. */
 uint32_t geopotential_symmetric_eigen(size_t n, const double *a, size_t a_len, double *work, size_t work_len, double *values,
-                                      size_t values_len, double *vectors, size_t vectors_len);
+                                      size_t values_len, double *vectors, size_t vectors_len, uint32_t *settled, size_t *count);
 /* The same by Householder reduction and QL iteration at every n. */
 uint32_t geopotential_householder_ql(size_t n, const double *a, size_t a_len, double *work, size_t work_len, double *values,
-                                     size_t values_len, double *vectors, size_t vectors_len);
+                                     size_t values_len, double *vectors, size_t vectors_len, uint32_t *settled, size_t *count);
 /* The Slepian functions to degree L of the polar cap whose angle has this cosine, best concentrated first: orders (as numbers),
  * concentrations, and the vectors end to end, L-m+1 numbers each. weights and latitudes, L+1 and 2(L+1), are those of
- * the L+1 Gauss nodes over the cap. With k = L+1 and T = k(k+1)/2: orders and concentrations T; vectors: k(k+1)(2k+1)/6; work: 3T + 4k^2 + 5k and
- * these three lengths. Refused by 1 (L above 180), 2, 3. */
+ * the L+1 Gauss nodes over the cap. settled: 2(L+1) numbers, two for each order m, by rising m and not by rank: 1 or 0 and then the count, as
+ * symmetric_eigen tells them of the order's matrix of L-m+1 rows. With k = L+1 and T = k(k+1)/2: orders and concentrations T; vectors:
+ * k(k+1)(2k+1)/6; work: 3T + 4k^2 + 5k and these three lengths. Refused by 1 (L above 180), 2, 3. */
 uint32_t geopotential_polar_cap(size_t lmax, double cosine, const double *weights, size_t weights_len, const double *latitudes,
                                 size_t latitudes_len, double *work, size_t work_len, double *orders, size_t orders_len,
-                                double *concentrations, size_t concentrations_len, double *vectors, size_t vectors_len);
+                                double *concentrations, size_t concentrations_len, double *vectors, size_t vectors_len, double *settled,
+                                size_t settled_len);
 /* Regions of any shape, to degree L, up to 21. With k = L+1 there are k^2 functions: the basis P(l,m) cos(m lon), P(l,m) sin(m lon) has l outermost,
  * the cosine before the sine and no sine at m = 0, so that (l,m) stands at place l^2 for m = 0, and else at l^2 + 2m - 1 (cosine) and l^2 + 2m
  * (sine).
@@ -237,12 +245,13 @@ uint32_t geopotential_concentration_matrix(size_t lmax, size_t nodes, const doub
 /* The region's Slepian functions, the eigenvectors of that matrix, best concentrated first: concentrations, k^2 eigenvalues, and for each
  * function T numbers in cs (of the cosines) and T in ss (of the sines, +0.0 at m = 0), function after function, each as a table: k^2 T numbers
  * each. Numbers of a function are used as a model's c and s with gm 1 and radius 1, tide unknown, no date. Concentrations cluster at 1 and 0:
- * within a cluster functions are determined only up to rotations among themselves. work: 3T + 4k^4 + 5k^2. Refused by 1 (L above 21, or too many
- * nodes), 2, 3. */
+ * within a cluster functions are determined only up to rotations among themselves. *settled and *count are those of symmetric_eigen for the
+ * matrix; from L = 10 on a 0 is ordinary, and no error. work: 3T + 4k^4 + 5k^2. Refused by 1 (L above 21, or too many nodes), 2, 3; *settled and
+ * *count are left alone on a refusal. */
 uint32_t geopotential_region(size_t lmax, size_t nodes, const double *weights, size_t weights_len, const double *latitudes,
                              size_t latitudes_len, const uint8_t *marks, size_t marks_len, const double *s, size_t s_len, const double *c,
                              size_t c_len, double *work, size_t work_len, double *concentrations, size_t concentrations_len, double *cs,
-                             size_t cs_len, double *ss, size_t ss_len);
+                             size_t cs_len, double *ss, size_t ss_len, uint32_t *settled, size_t *count);
 /* A functional's average over a basin by its kernel, up to the smaller degree M. c, s: T; kc, ks: the same of kmax; love: M+1 or more for water
  * heights. Where kc[0] is at most 1 in size and the value is finite, the value times kc[0] lies within (T+5)/2^53 of the sum of the terms' sizes,
  * plus (3TF+1)/2^1074, of the exact sum of its terms: factor c kc and factor s ks of all T = (M+1)(M+2)/2 pairs up to M, each by
@@ -290,7 +299,7 @@ uint32_t geopotential_tensor_neu_lengths(size_t *lengths, size_t lengths_len);  
 uint32_t geopotential_analysis_lengths(size_t nmax, size_t *lengths, size_t lengths_len); /* love, values, weights, latitudes, trig, work, c, s */
 uint32_t geopotential_symmetric_eigen_lengths(size_t n, size_t *lengths, size_t lengths_len); /* a, work, values, vectors */
 uint32_t geopotential_householder_ql_lengths(size_t n, size_t *lengths, size_t lengths_len);  /* a, work, values, vectors */
-/* weights, latitudes, work, orders, concentrations, vectors */
+/* weights, latitudes, work, orders, concentrations, vectors, settled */
 uint32_t geopotential_polar_cap_lengths(size_t lmax, size_t *lengths, size_t lengths_len);
 /* weights, latitudes, marks, s, c, work, matrix */
 uint32_t geopotential_concentration_matrix_lengths(size_t lmax, size_t nodes, size_t *lengths, size_t lengths_len);

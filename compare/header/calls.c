@@ -286,15 +286,34 @@ static void analysis(void)
 
 static void eigenvalues(void)
 {
-    size_t lengths[LISTS];
-    const double a[4] = {7, 0, 0, 5};
+    size_t lengths[LISTS], count = 9;
+    uint32_t settled = 9;
+    const double a[4] = {7, 0, 0, 5}, large[4] = {1, 1e200, 1e200, 1}, bad[1] = {NAN};
     double values[2], vectors[4], work[12];
     CHECK(geopotential_symmetric_eigen_lengths(2, lengths, LISTS) == GEOPOTENTIAL_DONE && lengths[1] == 12 && lengths[3] == 4);
-    CHECK(geopotential_symmetric_eigen(2, a, lengths[0], work, lengths[1], values, lengths[2], vectors, lengths[3]) == GEOPOTENTIAL_DONE);
-    CHECK(values[0] == 7 && values[1] == 5 && vectors[0] == 1 && vectors[1] == 0);
+    CHECK(geopotential_symmetric_eigen(2, a, lengths[0], work, lengths[1], values, lengths[2], vectors, lengths[3], &settled, &count) ==
+          GEOPOTENTIAL_DONE);
+    CHECK(values[0] == 7 && values[1] == 5 && vectors[0] == 1 && vectors[1] == 0 && settled == 1 && count == 0);
+    /* Settled is not right: the squares overflow, and the diagonal is the answer. The other method finds the values in one round. */
+    CHECK(geopotential_symmetric_eigen(2, large, lengths[0], work, lengths[1], values, lengths[2], vectors, lengths[3], &settled, &count) ==
+          GEOPOTENTIAL_DONE);
+    CHECK(values[0] == 1 && values[1] == 1 && settled == 1 && count == 0);
+    CHECK(geopotential_householder_ql(2, large, lengths[0], work, lengths[1], values, lengths[2], vectors, lengths[3], &settled, &count) ==
+          GEOPOTENTIAL_DONE);
+    CHECK(fabs(values[0] + 1e200) < 1e185 && values[1] == -values[0] && settled == 1 && count == 1);
     CHECK(geopotential_householder_ql_lengths(1, lengths, LISTS) == GEOPOTENTIAL_DONE && lengths[1] == 5);
-    CHECK(geopotential_householder_ql(1, a, lengths[0], work, lengths[1], values, lengths[2], vectors, lengths[3]) == GEOPOTENTIAL_DONE);
-    CHECK(values[0] == 7 && vectors[0] == 1);
+    CHECK(geopotential_householder_ql(1, a, lengths[0], work, lengths[1], values, lengths[2], vectors, lengths[3], &settled, &count) ==
+          GEOPOTENTIAL_DONE);
+    CHECK(values[0] == 7 && vectors[0] == 1 && settled == 1 && count == 0);
+    CHECK(geopotential_symmetric_eigen(1, bad, lengths[0], work, lengths[1], values, lengths[2], vectors, lengths[3], &settled, &count) ==
+          GEOPOTENTIAL_DONE);
+    CHECK(settled == 0 && count == 100);
+    settled = count = 9;
+    CHECK(geopotential_symmetric_eigen(1, bad, 2, work, lengths[1], values, lengths[2], vectors, lengths[3], &settled, &count) ==
+          GEOPOTENTIAL_LENGTH);
+    CHECK(geopotential_householder_ql(513, bad, 1, work, lengths[1], values, lengths[2], vectors, lengths[3], &settled, &count) ==
+          GEOPOTENTIAL_SIZE);
+    CHECK(settled == 9 && count == 9);
     CHECK(geopotential_symmetric_eigen_lengths(513, lengths, LISTS) == GEOPOTENTIAL_SIZE && lengths[1] == 5);
 }
 
@@ -302,14 +321,16 @@ static void eigenvalues(void)
 static void caps(void)
 {
     size_t lengths[LISTS];
-    CHECK(geopotential_polar_cap_lengths(1, lengths, LISTS) == GEOPOTENTIAL_DONE && lengths[3] == 3 && lengths[5] == 5);
+    CHECK(geopotential_polar_cap_lengths(1, lengths, LISTS) == GEOPOTENTIAL_DONE && lengths[3] == 3 && lengths[5] == 5 && lengths[6] == 4);
     const double node = sqrt(1.0 / 3), u = sqrt(2.0 / 3), weights[2] = {1, 1}, latitudes[4] = {-node, u, node, u};
     double *work = list(lengths[2]), *orders = list(lengths[3]), *concentrations = list(lengths[4]), *vectors = list(lengths[5]);
+    double *settled = list(lengths[6]);
     CHECK(geopotential_polar_cap(1, -1, weights, lengths[0], latitudes, lengths[1], work, lengths[2], orders, lengths[3], concentrations,
-                                 lengths[4], vectors, lengths[5]) == GEOPOTENTIAL_DONE);
+                                 lengths[4], vectors, lengths[5], settled, lengths[6]) == GEOPOTENTIAL_DONE);
     for (size_t i = 0; i < 3; i++) CHECK(fabs(concentrations[i] - 1) < 1e-14);
     CHECK(orders[0] + orders[1] + orders[2] == 1 && orders[3] == 7 && vectors[5] == 7);
-    free(work), free(orders), free(concentrations), free(vectors);
+    CHECK(settled[0] == 1 && settled[1] == 2 && settled[2] == 1 && settled[3] == 0 && settled[4] == 7);
+    free(work), free(orders), free(concentrations), free(vectors), free(settled);
 }
 
 /* The whole sphere: two Gauss nodes over all longitudes, and a third node that is skipped. */
@@ -328,11 +349,13 @@ static void regions(void)
     CHECK(matrix[16] == 7 && work[0] == 7);
     free(work), free(matrix);
     CHECK(geopotential_region_lengths(1, 3, lengths, LISTS) == GEOPOTENTIAL_DONE && lengths[5] == 93 && lengths[7] == 12);
+    uint32_t settled = 9;
+    size_t count = 9;
     double *room = list(lengths[5]), *concentrations = list(lengths[6]), *cs = list(lengths[7]), *ss = list(lengths[8]);
     CHECK(geopotential_region(1, 3, weights, lengths[0], latitudes, lengths[1], marks, lengths[2], s, lengths[3], c, lengths[4], room,
-                              lengths[5], concentrations, lengths[6], cs, lengths[7], ss, lengths[8]) == GEOPOTENTIAL_DONE);
+                              lengths[5], concentrations, lengths[6], cs, lengths[7], ss, lengths[8], &settled, &count) == GEOPOTENTIAL_DONE);
     for (size_t i = 0; i < 4; i++) CHECK(fabs(concentrations[i] - 1) < 1e-14 && ss[3 * i] == 0 && ss[3 * i + 1] == 0);
-    CHECK(concentrations[4] == 7 && cs[12] == 7 && ss[12] == 7 && room[93] == 7);
+    CHECK(concentrations[4] == 7 && cs[12] == 7 && ss[12] == 7 && room[93] == 7 && settled == 1 && count <= 1);
     free(room), free(concentrations), free(cs), free(ss);
 }
 
