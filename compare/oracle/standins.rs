@@ -1,5 +1,6 @@
 //! What document 01 puts in the place of the standard library's functions ("Stand-ins, used by the comparison too").
 
+use core::cell::RefCell;
 use core::cmp::Ordering;
 use core::f64::consts::PI;
 
@@ -87,4 +88,43 @@ pub struct Node {
     pub mark: u8,
     pub s: Vec<f64>,
     pub c: Vec<f64>,
+}
+
+/// How a solver ends (document 02, W5): how many stopping tests it must meet, how many it met, and how many steps it took past one that was
+/// not met.
+#[derive(Default)]
+pub struct Ended {
+    asked: usize,
+    met: usize,
+    steps: usize,
+}
+
+thread_local! {
+    static NOTES: RefCell<Vec<(bool, usize)>> = const { RefCell::new(Vec::new()) };
+}
+
+impl Ended {
+    #[inline]
+    pub fn ask(&mut self) {
+        self.asked += 1;
+    }
+    #[inline]
+    pub fn meet(&mut self) {
+        self.met += 1;
+    }
+    #[inline]
+    pub fn step(&mut self) {
+        self.steps += 1;
+    }
+    /// Notes whether the solver settled, and its count.
+    pub fn leave(self) {
+        NOTES.with_borrow_mut(|notes| notes.push((self.asked == self.met, self.steps)));
+    }
+}
+
+/// What a call answers, and the notes of the solvers that it called.
+pub fn noted<T>(call: impl FnOnce() -> T) -> (T, Vec<(bool, usize)>) {
+    NOTES.with_borrow_mut(Vec::clear);
+    let answer = call();
+    (answer, NOTES.take())
 }

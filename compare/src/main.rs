@@ -4,6 +4,7 @@ mod analysis;
 mod cases;
 mod coefficients;
 mod constants;
+mod ended;
 mod entries;
 mod functional;
 mod guarded;

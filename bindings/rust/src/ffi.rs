@@ -9,7 +9,7 @@ pub use entries::*;
 #[cfg(test)]
 mod tests {
     /// The version that these declarations are of; include/geopotential.h has the same number.
-    const VERSION: u32 = 2;
+    const VERSION: u32 = 3;
 
     #[test]
     fn the_library_is_of_the_version_that_is_declared() {

@@ -28,6 +28,7 @@ use core::f64::consts::{PI, TAU};
 
 use crate::calls::matrices::{Ranked, RankedTables};
 use crate::calls::{fields, lengths, matrices};
+use crate::linalg::Convergence;
 pub use crate::nodes::{Intervals, Nodes};
 use crate::refusal::{Refusal, or_panic};
 use crate::trigonometry::put_latitudes;
@@ -65,7 +66,31 @@ pub fn polar_cap(lmax: usize, theta: f64) -> Vec<Slepian> {
 
 /// [`polar_cap`], refused instead of a panic.
 pub fn try_polar_cap(lmax: usize, theta: f64) -> Result<Vec<Slepian>, Refusal> {
-    let [_, latitudes, work, orders, concentrations, vectors] = lengths::polar_cap(lmax)?;
+    solve_cap(lmax, theta, |functions, _| functions)
+}
+
+/// [`try_polar_cap`], with how [`symmetric_eigen`](crate::linalg::symmetric_eigen) ended for the matrix of each order `m = 0 ..=
+/// lmax`, which has `lmax − m + 1` rows: by rising order, not by rank. An order that did not settle has its functions too.
+///
+/// ```
+/// use geopotential::slepian::try_polar_cap_with;
+///
+/// let (functions, orders) = try_polar_cap_with(18, 40f64.to_radians())?;
+/// assert_eq!((functions.len(), orders.len()), (190, 19));
+/// assert!(orders.iter().all(|order| order.settled) && orders[0].count == 7);
+/// # Ok::<(), geopotential::Refusal>(())
+/// ```
+pub fn try_polar_cap_with(lmax: usize, theta: f64) -> Result<(Vec<Slepian>, Vec<Convergence>), Refusal> {
+    solve_cap(lmax, theta, |functions, settled| {
+        let convergence = |&[settled, count]: &[f64; 2]| Convergence { settled: settled == 1.0, count: count as usize };
+        (functions, settled.as_chunks().0.iter().map(convergence).collect())
+    })
+}
+
+/// A cap's functions and the list that tells how each order's solver ended, as `answer` puts them together: the plain call makes no
+/// list of it.
+fn solve_cap<T>(lmax: usize, theta: f64, answer: impl FnOnce(Vec<Slepian>, &[f64]) -> T) -> Result<T, Refusal> {
+    let [_, latitudes, work, orders, concentrations, vectors, settled] = lengths::polar_cap(lmax)?;
     workspace::lend(|lists| {
         let (x, weights) = lists.gauss.rule(lmax + 1)?;
         let (latitudes, work) = (lists.latitudes.front(latitudes), lists.work.front(work));
@@ -77,8 +102,9 @@ pub fn try_polar_cap(lmax: usize, theta: f64) -> Result<Vec<Slepian>, Refusal> {
             concentrations: lists.concentrations.front(concentrations),
             vectors: lists.numbers.front(vectors),
         };
-        matrices::polar_cap(lmax, x0, weights, latitudes, work, &mut ranked)?;
-        Ok(functions(lmax, &ranked))
+        let settled = lists.settled.front(settled);
+        matrices::polar_cap(lmax, x0, weights, latitudes, work, &mut ranked, settled)?;
+        Ok(answer(functions(lmax, &ranked), settled))
     })
 }
 
@@ -162,7 +188,27 @@ pub fn region(lmax: usize, intervals: Intervals, breaks: &[f64], nodes: usize) -
 
 /// [`region`], refused instead of a panic.
 pub fn try_region(lmax: usize, intervals: Intervals, breaks: &[f64], nodes: usize) -> Result<Vec<RegionSlepian>, Refusal> {
-    Nodes::try_new(lmax, intervals, breaks, nodes)?.try_region()
+    try_region_with(lmax, intervals, breaks, nodes).map(|(functions, _)| functions)
+}
+
+/// [`try_region`], with how [`symmetric_eigen`](crate::linalg::symmetric_eigen) ended for the region's one matrix, of `(lmax + 1)²`
+/// rows. From `lmax = 10` on, not settled is ordinary, and no error: the eigenvalues that cluster at 0 keep the test from passing.
+///
+/// ```
+/// use geopotential::slepian::{cap, try_region_with};
+///
+/// let (intervals, breaks) = cap(1.2, 0.3, 40f64.to_radians());
+/// let (functions, end) = try_region_with(4, &intervals, &breaks, 30)?;
+/// assert!(functions.len() == 25 && end.settled && end.count < 100);
+/// # Ok::<(), geopotential::Refusal>(())
+/// ```
+pub fn try_region_with(
+    lmax: usize,
+    intervals: Intervals,
+    breaks: &[f64],
+    nodes: usize,
+) -> Result<(Vec<RegionSlepian>, Convergence), Refusal> {
+    Nodes::try_new(lmax, intervals, breaks, nodes)?.try_region_with()
 }
 
 impl Nodes {
@@ -181,11 +227,16 @@ impl Nodes {
 
     /// The region's Slepian functions, as [`region`] answers them.
     pub fn region(&self) -> Vec<RegionSlepian> {
-        or_panic(self.try_region())
+        self.region_with().0
+    }
+
+    /// The same with how the solver ended, as [`try_region_with`] answers them.
+    pub fn region_with(&self) -> (Vec<RegionSlepian>, Convergence) {
+        or_panic(self.try_region_with())
     }
 
     /// Not refused either.
-    fn try_region(&self) -> Result<Vec<RegionSlepian>, Refusal> {
+    fn try_region_with(&self) -> Result<(Vec<RegionSlepian>, Convergence), Refusal> {
         let [.., work, concentrations, cs, ss] = lengths::region(self.lmax, self.len())?;
         workspace::lend(|lists| {
             let mut ranked = RankedTables {
@@ -193,8 +244,8 @@ impl Nodes {
                 cs: lists.numbers.front(cs),
                 ss: lists.sines.front(ss),
             };
-            matrices::region(self, lists.work.front(work), &mut ranked)?;
-            self.functions(&ranked)
+            let convergence = matrices::region(self, lists.work.front(work), &mut ranked)?;
+            Ok((self.functions(&ranked)?, convergence))
         })
     }
 

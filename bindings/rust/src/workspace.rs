@@ -69,6 +69,8 @@ pub struct Workspace {
     pub sines: List,
     /// Orders of a cap's functions.
     pub orders: List,
+    /// How the solver ended for each order of a cap.
+    pub settled: List,
     /// Concentrations of a cap's or a region's functions.
     pub concentrations: List,
     /// Bit patterns of a model's C̄nm.

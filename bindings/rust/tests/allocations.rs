@@ -4,8 +4,8 @@ use std::alloc::{GlobalAlloc, Layout, System};
 use std::cell::Cell;
 use std::hint::black_box;
 
-use geopotential::linalg::symmetric_eigen;
-use geopotential::slepian::{Nodes, basin_average, cap, polar_cap};
+use geopotential::linalg::{symmetric_eigen, try_symmetric_eigen_with};
+use geopotential::slepian::{Nodes, basin_average, cap, polar_cap, try_polar_cap_with};
 use geopotential::{Coefficients, Functional, Legendre, gauss_grid, gauss_legendre, model_file};
 
 /// The system's allocator, counting each thread's allocations.
@@ -86,7 +86,9 @@ fn tables_rules_and_matrices() {
     assert!(COUNT.get() - before <= 3 * 4);
     assert_eq!(again(|| gauss_legendre(21)), 2, "nodes and weights");
     assert_eq!(again(|| symmetric_eigen(&[2.0, 1.0, 1.0, 2.0], 2)), 2, "values and vectors");
+    assert_eq!(again(|| try_symmetric_eigen_with(&[2.0, 1.0, 1.0, 2.0], 2)), 2, "values and vectors");
     assert_eq!(again(|| polar_cap(6, 0.5)), 29, "28 functions and their list");
+    assert_eq!(again(|| try_polar_cap_with(6, 0.5)), 30, "and the list of the orders");
     let (intervals, breaks) = cap(0.9, 0.0, 0.4);
     let nodes = Nodes::new(2, &intervals, &breaks, 6);
     assert_eq!(again(|| nodes.concentration_matrix()), 1);

@@ -1,7 +1,9 @@
 //! Every refusal that a caller can meet, through the twin that answers it.
 
-use geopotential::linalg::{try_householder_ql, try_symmetric_eigen};
-use geopotential::slepian::{Nodes, cap, region, try_basin_average, try_concentration_matrix, try_polar_cap, try_region};
+use geopotential::linalg::{try_householder_ql, try_householder_ql_with, try_symmetric_eigen, try_symmetric_eigen_with};
+use geopotential::slepian::{
+    Nodes, cap, region, try_basin_average, try_concentration_matrix, try_polar_cap, try_polar_cap_with, try_region, try_region_with,
+};
 use geopotential::{Coefficients, Functional, Legendre, MAX_DEGREE, Refusal, try_gauss_grid, try_gauss_legendre};
 
 /// Degrees that no call takes; the last two would wrap around.
@@ -21,6 +23,7 @@ fn degrees_above_the_limit() {
         assert_eq!(Coefficients::try_analysis(&Functional::Potential, 1.0, &[], n, 1.0, 1.0), Err(Refusal::Size));
         assert_eq!(try_gauss_grid(n), Err(Refusal::Size));
         assert_eq!(try_polar_cap(n, 1.0), Err(Refusal::Size));
+        assert_eq!(try_polar_cap_with(n, 1.0), Err(Refusal::Size));
     }
     assert!(Coefficients::try_zeros(1.0, 1.0, MAX_DEGREE).is_ok());
     assert!(try_gauss_grid(64).is_ok());
@@ -33,10 +36,12 @@ fn regions_above_their_limits() {
     for lmax in [22, 2700, (1 << 32) + 1, usize::MAX] {
         assert_eq!(try_concentration_matrix(lmax, &unasked, &[0.0, 1.0], 1), Err(Refusal::Size));
         assert_eq!(try_region(lmax, &unasked, &[0.0, 1.0], 1), Err(Refusal::Size));
+        assert_eq!(try_region_with(lmax, &unasked, &[0.0, 1.0], 1), Err(Refusal::Size));
     }
     let many: Vec<f64> = (0..=26).map(|k| 0.1 * k as f64).collect();
     for (breaks, nodes) in [(&many[..], 2521), (&many[..2], 2702), (&many[..3], usize::MAX), (&many[..], 1 << 60)] {
         assert_eq!(Nodes::try_new(0, &unasked, breaks, nodes).err(), Some(Refusal::Size), "{nodes}");
+        assert_eq!(try_region_with(0, &unasked, breaks, nodes), Err(Refusal::Size), "{nodes}");
     }
     let (intervals, _) = cap(1.3, 0.0, 3.0);
     assert_eq!(Nodes::new(0, &intervals, &many, 2520).len(), 26 * 2520);
@@ -69,6 +74,9 @@ fn rules_matrices_and_caps_above_their_limits() {
     assert_eq!(try_symmetric_eigen(&[0.0; 513 * 513], 513), Err(Refusal::Size));
     assert_eq!(try_householder_ql(&[], usize::MAX), Err(Refusal::Size));
     assert_eq!(try_polar_cap(181, 1.0), Err(Refusal::Size));
+    assert_eq!(try_symmetric_eigen_with(&[0.0; 513 * 513], 513), Err(Refusal::Size));
+    assert_eq!(try_householder_ql_with(&[], usize::MAX), Err(Refusal::Size));
+    assert_eq!(try_polar_cap_with(181, 1.0), Err(Refusal::Size));
 }
 
 #[test]
@@ -93,6 +101,11 @@ fn lists_of_another_length() {
     assert!(analysis(18).is_ok());
     assert_eq!(analysis(19), Err(Refusal::Length));
     for solver in [try_symmetric_eigen, try_householder_ql] {
+        assert_eq!(solver(&[1.0; 3], 2), Err(Refusal::Length));
+        assert_eq!(solver(&[1.0; 5], 2), Err(Refusal::Length));
+        assert_eq!(solver(&[1.0], 0), Err(Refusal::Length));
+    }
+    for solver in [try_symmetric_eigen_with, try_householder_ql_with] {
         assert_eq!(solver(&[1.0; 3], 2), Err(Refusal::Length));
         assert_eq!(solver(&[1.0; 5], 2), Err(Refusal::Length));
         assert_eq!(solver(&[1.0], 0), Err(Refusal::Length));

@@ -82,7 +82,7 @@ fn matrix(sizes: &[usize]) -> Vec<u128> {
 fn cap(sizes: &[usize]) -> Vec<u128> {
     let (t, k) = (pairs(sizes[0]), rows(sizes[0]));
     let vectors = k * (k + 1) * (2 * k + 1) / 6;
-    vec![k, 2 * k, 3 * t + 4 * k * k + 5 * k + (t + t + vectors), t, t, vectors]
+    vec![k, 2 * k, 3 * t + 4 * k * k + 5 * k + (t + t + vectors), t, t, vectors, 2 * k]
 }
 
 /// The five lists of the nodes of a region.

@@ -1,12 +1,13 @@
 //! Times of the crate `linalg`. The Rust allocates its lists in every call.
 
-use super::{SOLVERS, work_size};
+use super::{SOLVERS, Solver, work_size};
 use crate::cases::Cases;
+use crate::ended::Ended;
 use crate::timing::{allocated, race, repeat};
 
 pub fn bench() {
     for (n, calls) in [(8, 200), (32, 4), (33, 4), (181, 1), (512, 1)] {
-        for (name, ours, oracle) in SOLVERS {
+        for Solver { name, ours, oracle, .. } in SOLVERS {
             // Above 32 both are the same work.
             if n > 32 && name != "symmetric_eigen" {
                 continue;
@@ -20,10 +21,11 @@ pub fn bench() {
                 }
             }
             let (mut work, mut values, mut vectors) = (vec![0.0; work_size(n) as usize], vec![0.0; n], vec![0.0; n * n]);
-            let (wide, square) = (work.len(), n * n);
+            let (wide, square, mut ended) = (work.len(), n * n, Ended::lent());
             let mine = || {
                 repeat(calls, || unsafe {
-                    ours(n, a.as_ptr(), square, work.as_mut_ptr(), wide, values.as_mut_ptr(), n, vectors.as_mut_ptr(), square)
+                    let (w, d, v) = (work.as_mut_ptr(), values.as_mut_ptr(), vectors.as_mut_ptr());
+                    ours(n, a.as_ptr(), square, w, wide, d, n, v, square, &mut ended.settled, &mut ended.count)
                 })
             };
             race(&format!("{name} n = {n}"), calls, mine, || repeat(calls, || allocated(oracle(&a, n))));

@@ -4,27 +4,40 @@ pub mod bench;
 pub mod replay;
 
 use oracle::linalg::{householder_ql, symmetric_eigen};
+use oracle::standins::noted;
 
 use crate::cases::Cases;
+use crate::ended::{Ended, most};
 use crate::entries::*;
 use crate::guarded::Guarded;
 use crate::refusal::{LENGTH, SIZE, SPACE, answered, fault};
 use crate::tally::{Report, Tally};
 
 /// The random small matrices of a call.
-const COUNT: u64 = 20_000;
+const COUNT: u64 = 60_000;
 
 /// One of the two calls, ours and the oracle's.
-type Ours = unsafe extern "C" fn(usize, *const f64, usize, *mut f64, usize, *mut f64, usize, *mut f64, usize) -> u32;
+type Ours = unsafe extern "C" fn(usize, *const f64, usize, *mut f64, usize, *mut f64, usize, *mut f64, usize, *mut u32, *mut usize) -> u32;
 type Oracle = fn(&[f64], usize) -> (Vec<f64>, Vec<f64>);
 
-pub const SOLVERS: [(&str, Ours, Oracle); 2] =
-    [("symmetric_eigen", geopotential_symmetric_eigen, symmetric_eigen), ("householder_ql", geopotential_householder_ql, householder_ql)];
+/// The two, each with the most steps that it may take on n rows.
+pub const SOLVERS: [Solver; 2] = [
+    Solver { name: "symmetric_eigen", ours: geopotential_symmetric_eigen, oracle: symmetric_eigen, most },
+    Solver { name: "householder_ql", ours: geopotential_householder_ql, oracle: householder_ql, most: |n| 100 * n },
+];
+
+#[derive(Clone, Copy)]
+pub struct Solver {
+    pub name: &'static str,
+    pub ours: Ours,
+    pub oracle: Oracle,
+    pub most: fn(usize) -> usize,
+}
 
 pub fn compare(report: &mut Report) {
-    for (name, ours, oracle) in SOLVERS {
-        report.call(&format!("linalg.{name}"), |tally, cases| matrices(tally, cases, ours, oracle));
-        report.call(&format!("linalg.{name}, refusals"), |tally, cases| refusals(tally, cases, ours, oracle));
+    for solver in SOLVERS {
+        report.call(&format!("linalg.{}", solver.name), |tally, cases| matrices(tally, cases, solver));
+        report.call(&format!("linalg.{}, refusals", solver.name), |tally, cases| refusals(tally, cases, solver));
     }
 }
 
@@ -49,19 +62,23 @@ fn due(n: usize, lengths: &[usize; 4]) -> u32 {
     }
 }
 
-fn call(tally: &mut Tally, ours: Ours, oracle: Oracle, n: usize, matrix: &[f64], lengths: [usize; 4]) {
+fn call(tally: &mut Tally, solver: Solver, n: usize, matrix: &[f64], lengths: [usize; 4]) {
     let mut a = Guarded::of(matrix, lengths[0]);
     let (mut work, mut values, mut vectors) = (Guarded::marked(lengths[1]), Guarded::marked(lengths[2]), Guarded::marked(lengths[3]));
     let due = due(n, &lengths);
+    let mut ended = Ended::lent();
     let number = unsafe {
-        ours(n, a.pointer(), a.len(), work.pointer(), work.len(), values.pointer(), values.len(), vectors.pointer(), vectors.len())
+        let (a, w) = ((a.pointer(), a.len()), (work.pointer(), work.len()));
+        let (d, v) = ((values.pointer(), values.len()), (vectors.pointer(), vectors.len()));
+        (solver.ours)(n, a.0, a.1, w.0, w.1, d.0, d.1, v.0, v.1, &mut ended.settled, &mut ended.count)
     };
-    let answer = answered(due, || oracle(matrix, n)).unwrap_or_default();
+    let (answer, notes) = answered(due, || noted(|| (solver.oracle)(matrix, n))).unwrap_or_default();
     // The used part of the working list is free after an accepted call.
     let kept = work.now()[..if due == 0 { work_size(n) as usize } else { 0 }].to_vec();
     let fault = fault(number, due)
         .or_else(|| values.fault("values", &answer.0))
         .or_else(|| vectors.fault("vectors", &answer.1))
+        .or_else(|| ended.fault(notes.last().copied(), (solver.most)(n)))
         .or_else(|| work.fault("work", &kept))
         .or_else(|| a.fault("a", &[]));
     tally.call(fault, || format!("n {n}, lengths {lengths:?}, a {:x?}", matrix.iter().take(9).map(|x| x.to_bits()).collect::<Vec<_>>()));
@@ -109,28 +126,33 @@ pub fn shaped(cases: &mut Cases, n: usize) -> Vec<f64> {
     }
 }
 
-fn matrices(tally: &mut Tally, cases: &mut Cases, ours: Ours, oracle: Oracle) {
+fn matrices(tally: &mut Tally, cases: &mut Cases, solver: Solver) {
     for (n, matrix) in edges() {
-        call(tally, ours, oracle, n, &matrix, stated(n));
+        call(tally, solver, n, &matrix, stated(n));
     }
     for _ in cases.times(COUNT) {
         let n = cases.below(9) as usize;
         let matrix = shaped(cases, n);
         let longer = stated(n).map(|length| length + if length == n * n { 0 } else { cases.below(4) as usize });
-        call(tally, ours, oracle, n, &matrix, longer);
+        call(tally, solver, n, &matrix, longer);
     }
     for n in 0..=64 {
         for _ in cases.times(24) {
             let matrix = shaped(cases, n);
-            call(tally, ours, oracle, n, &matrix, stated(n));
+            call(tally, solver, n, &matrix, stated(n));
         }
     }
     for n in [100, 181, 181, 181] {
         let matrix = shaped(cases, n);
-        call(tally, ours, oracle, n, &matrix, stated(n));
+        call(tally, solver, n, &matrix, stated(n));
     }
     let largest = symmetric(512, made(512, |_, _| cases.fraction() - 0.5));
-    call(tally, ours, oracle, 512, &largest, stated(512));
+    call(tally, solver, 512, &largest, stated(512));
+}
+
+/// So many times the smallest number above zero, each.
+fn tiny(cells: &[i8]) -> Vec<f64> {
+    cells.iter().map(|&cell| cell as f64 * 5e-324).collect()
 }
 
 /// Matrices that are easily got wrong.
@@ -150,14 +172,19 @@ pub fn edges() -> Vec<(usize, Vec<f64>)> {
         (2, vec![0.0, 5e-324, 5e-324, 0.0]),
         (3, vec![0.0; 9]),
         (3, vec![-0.0; 9]),
+        // Rounds that break off on a zero; a number that does not settle; two that do not.
+        (3, tiny(&[6, -2, -4, -2, 5, -3, -4, -3, 6])),
+        (3, tiny(&[4, -7, 6, -7, 3, 4, 6, 4, -7])),
+        (4, tiny(&[-3, 5, -3, -1, 5, -4, 7, 6, -3, 7, -5, -1, -1, 6, -1, -2])),
         (4, made(4, |i, j| if i.abs_diff(j) == 1 { 5e-324 } else { 0.0 })),
         (5, made(5, |i, j| if i.abs_diff(j) == 1 { 1e-300 } else { -0.0 })),
     ];
+    list.push((33, vec![nan; 33 * 33]));
     list.extend((27..=34).map(|n| (n, vec![1.0; n * n])));
     list
 }
 
-fn refusals(tally: &mut Tally, cases: &mut Cases, ours: Ours, oracle: Oracle) {
+fn refusals(tally: &mut Tally, cases: &mut Cases, solver: Solver) {
     for n in [0, 1, 2, 3, 33] {
         let matrix: Vec<f64> = made(n, |_, _| cases.fraction());
         for choice in 0..81usize {
@@ -166,12 +193,12 @@ fn refusals(tally: &mut Tally, cases: &mut Cases, ours: Ours, oracle: Oracle) {
             for (place, length) in lengths.iter_mut().enumerate() {
                 *length = (*length + choice / 3usize.pow(place as u32) % 3).saturating_sub(1);
             }
-            call(tally, ours, oracle, n, &matrix, lengths);
+            call(tally, solver, n, &matrix, lengths);
         }
         for large in [513, 514, 65_536, 1 << 32, (1 << 32) + 1, 1 << 63, usize::MAX] {
-            call(tally, ours, oracle, large, &matrix, stated(n));
+            call(tally, solver, large, &matrix, stated(n));
         }
-        call(tally, ours, oracle, n + 1, &matrix, stated(n));
-        call(tally, ours, oracle, 512, &matrix, stated(n));
+        call(tally, solver, n + 1, &matrix, stated(n));
+        call(tally, solver, 512, &matrix, stated(n));
     }
 }

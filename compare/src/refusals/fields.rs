@@ -83,7 +83,7 @@ const POLAR_CAP: Call = Call {
         let (functions, k) = (pairs(degree), degree as u128 + 1);
         let vectors = k * (k + 1) * (2 * k + 1) / 6;
         let work = 3 * functions + 4 * k * k + 5 * k + 2 * functions + vectors;
-        vec![(Input, k), (Input, 2 * k), (Work, work), (Output, functions), (Output, functions), (Output, vectors)]
+        vec![(Input, k), (Input, 2 * k), (Work, work), (Output, functions), (Output, functions), (Output, vectors), (Output, 2 * k)]
     },
 };
 

@@ -6,6 +6,7 @@ use oracle::slepian::{basin_average, concentration_matrix, region};
 use super::caps::{Cap, lengths, work_size};
 use super::regions::{Asked, Region, stated};
 use crate::cases::Cases;
+use crate::ended::Ended;
 use crate::entries::*;
 use crate::functional::{EARTH, functional};
 use crate::lent::flat;
@@ -39,11 +40,15 @@ fn regions(lmax: usize, calls: usize) {
     };
     race(&format!("concentration_matrix L = {lmax}"), calls, ours, || repeat(calls, || allocated(concentration_matrix(lmax, &of.nodes))));
     lists = room(Asked::Functions);
+    let mut ended = Ended::lent();
     lent = lists.iter_mut().map(|list| (list.as_mut_ptr(), list.len())).collect();
     let ours = || {
         repeat(calls, || unsafe {
             let (f, o, cs, ss) = (lent[0], lent[1], lent[2], lent[3]);
-            geopotential_region(lmax, nodes, w.0, w.1, l.0, l.1, m.0, m.1, s.0, s.1, c.0, c.1, f.0, f.1, o.0, o.1, cs.0, cs.1, ss.0, ss.1)
+            let (settled, count) = (&mut ended.settled, &mut ended.count);
+            geopotential_region(
+                lmax, nodes, w.0, w.1, l.0, l.1, m.0, m.1, s.0, s.1, c.0, c.1, f.0, f.1, o.0, o.1, cs.0, cs.1, ss.0, ss.1, settled, count,
+            )
         })
     };
     race(&format!("region L = {lmax}"), calls, ours, || repeat(calls, || allocated(region(lmax, &of.nodes))));
@@ -56,13 +61,14 @@ fn cap(lmax: usize, calls: usize) {
     let (functions, numbers) = (functions as usize, numbers as usize);
     let (mut work, mut vectors) = (vec![0.0; work_size(lmax) as usize], vec![0.0; numbers]);
     let (mut orders, mut concentrations) = (vec![0.0; functions], vec![0.0; functions]);
-    let wide = work.len();
+    let (wide, mut settled) = (work.len(), vec![0.0; 2 * (lmax + 1)]);
     let ours = || {
         repeat(calls, || unsafe {
             let (w, l) = ((cap.weights.as_ptr(), cap.weights.len()), (pairs.as_ptr(), pairs.len()));
             let (o, c) = (orders.as_mut_ptr(), concentrations.as_mut_ptr());
             let (f, v) = (work.as_mut_ptr(), vectors.as_mut_ptr());
-            geopotential_polar_cap(lmax, cap.cosine, w.0, w.1, l.0, l.1, f, wide, o, functions, c, functions, v, numbers)
+            let s = (settled.as_mut_ptr(), settled.len());
+            geopotential_polar_cap(lmax, cap.cosine, w.0, w.1, l.0, l.1, f, wide, o, functions, c, functions, v, numbers, s.0, s.1)
         })
     };
     race(&format!("polar_cap L = {lmax}"), calls, ours, || repeat(calls, || allocated(cap.oracle())));

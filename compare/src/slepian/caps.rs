@@ -2,7 +2,7 @@
 
 use oracle::gauss_legendre;
 use oracle::slepian::{Slepian, polar_cap};
-use oracle::standins::tricomi;
+use oracle::standins::{noted, tricomi};
 
 use crate::cases::Cases;
 use crate::entries::geopotential_polar_cap;
@@ -55,44 +55,53 @@ impl Cap {
     }
 }
 
-/// The lengths of weights, latitudes, working list, orders, concentrations, vectors.
-fn stated(lmax: usize) -> [u128; 6] {
-    let (order, (functions, numbers)) = (lmax as u128 + 1, lengths(lmax));
-    [order, 2 * order, work_size(lmax), functions, functions, numbers]
+/// The notes of the orders as numbers, the flag before the count.
+pub fn told(notes: &[(bool, usize)]) -> Vec<f64> {
+    notes.iter().flat_map(|&(settled, count)| [settled as u8 as f64, count as f64]).collect()
 }
 
-fn due(lmax: usize, lengths: &[usize; 6]) -> u32 {
+/// The lengths of weights, latitudes, working list, orders, concentrations, vectors, and of how the solver ended.
+fn stated(lmax: usize) -> [u128; 7] {
+    let (order, (functions, numbers)) = (lmax as u128 + 1, lengths(lmax));
+    [order, 2 * order, work_size(lmax), functions, functions, numbers, 2 * order]
+}
+
+fn due(lmax: usize, lengths: &[usize; 7]) -> u32 {
     if lmax > 180 {
         return SIZE;
     }
     let lists: Vec<(u128, u128)> = lengths.iter().map(|&length| length as u128).zip(stated(lmax)).collect();
     match lists.as_slice() {
-        [inputs @ .., _, _, _, _] if inputs.iter().any(|(length, stated)| length != stated) => LENGTH,
+        [inputs @ .., _, _, _, _, _] if inputs.iter().any(|(length, stated)| length != stated) => LENGTH,
         [_, _, outputs @ ..] if outputs.iter().any(|(length, stated)| length < stated) => SPACE,
         _ => 0,
     }
 }
 
-fn call(tally: &mut Tally, cap: &Cap, lmax: usize, lengths: [usize; 6]) {
+fn call(tally: &mut Tally, cap: &Cap, lmax: usize, lengths: [usize; 7]) {
     let (mut weights, mut lats) = (Guarded::of(&cap.weights, lengths[0]), Guarded::of(&flat(&cap.latitudes), lengths[1]));
     let (mut work, mut orders) = (Guarded::marked(lengths[2]), Guarded::marked(lengths[3]));
     let (mut concentrations, mut vectors) = (Guarded::marked(lengths[4]), Guarded::marked(lengths[5]));
+    let mut settled = Guarded::marked(lengths[6]);
     let due = due(lmax, &lengths);
     let ours = unsafe {
         let (w, l, f) = ((weights.pointer(), weights.len()), (lats.pointer(), lats.len()), (work.pointer(), work.len()));
         let (o, c) = ((orders.pointer(), orders.len()), (concentrations.pointer(), concentrations.len()));
-        geopotential_polar_cap(lmax, cap.cosine, w.0, w.1, l.0, l.1, f.0, f.1, o.0, o.1, c.0, c.1, vectors.pointer(), vectors.len())
+        let (v, s) = ((vectors.pointer(), vectors.len()), (settled.pointer(), settled.len()));
+        geopotential_polar_cap(lmax, cap.cosine, w.0, w.1, l.0, l.1, f.0, f.1, o.0, o.1, c.0, c.1, v.0, v.1, s.0, s.1)
     };
-    let functions = answered(due, || cap.oracle()).unwrap_or_default();
+    let (functions, notes) = answered(due, || noted(|| cap.oracle())).unwrap_or_default();
     let due_orders: Vec<f64> = functions.iter().map(|f| f.m as f64).collect();
     let due_concentrations: Vec<f64> = functions.iter().map(|f| f.concentration).collect();
     let due_vectors: Vec<f64> = functions.iter().flat_map(|f| f.coefficients.iter().copied()).collect();
+    let due_settled = told(&notes);
     // The used part of the working list is free after an accepted call.
     let kept = work.now()[..if due == 0 { work_size(lmax) as usize } else { 0 }].to_vec();
     let fault = fault(ours, due)
         .or_else(|| orders.fault("orders", &due_orders))
         .or_else(|| concentrations.fault("concentrations", &due_concentrations))
         .or_else(|| vectors.fault("vectors", &due_vectors))
+        .or_else(|| settled.fault("settled", &due_settled))
         .or_else(|| work.fault("work", &kept))
         .or_else(|| [("weights", &weights), ("latitudes", &lats)].iter().find_map(|(name, list)| list.fault(name, &[])));
     tally.call(fault, || format!("L {lmax}, cosine {}, lengths {lengths:?}", shown(cap.cosine)));
@@ -119,7 +128,7 @@ pub fn caps(tally: &mut Tally, cases: &mut Cases) {
 pub fn refusals(tally: &mut Tally, cases: &mut Cases) {
     for lmax in [0, 1, 2] {
         let cap = Cap::any(cases, lmax);
-        for choice in 0..729usize {
+        for choice in 0..2187usize {
             let mut lengths = stated(lmax).map(|length| length as usize);
             // Each list one too short, right, or one too long.
             for (place, length) in lengths.iter_mut().enumerate() {

@@ -2,10 +2,10 @@
 //! and with strange ones (degree 1, three regions), and of two nodes at degree 5, whose matrix the iteration solves.
 
 use oracle::slepian::{concentration_matrix, region};
-use oracle::standins::Node;
+use oracle::standins::{Node, noted};
 
 use super::regions::Region;
-use crate::constants::{array, bytes, number};
+use crate::constants::{array, bytes, hexadecimal, number};
 use crate::lent::pair;
 
 /// Numbers without a pattern.
@@ -57,7 +57,8 @@ fn list(comment: &str, name: &str, numbers: &[f64]) -> String {
 
 /// The lists of a region, and what is due of it: the first so many numbers of the matrix, and of the numbers of the functions.
 fn constants(name: &str, of: &Region, cells: usize, numbers: usize) -> String {
-    let functions = region(of.lmax, &of.nodes);
+    let (functions, notes) = noted(|| region(of.lmax, &of.nodes));
+    let ended: Vec<String> = notes.iter().flat_map(|&(settled, count)| [settled as u64, count as u64]).map(hexadecimal).collect();
     let (matrix, c, s): (Vec<f64>, Vec<f64>, Vec<f64>) = (
         concentration_matrix(of.lmax, &of.nodes),
         functions.iter().flat_map(|f| f.coefficients.c.iter().copied()).collect(),
@@ -73,6 +74,7 @@ fn constants(name: &str, of: &Region, cells: usize, numbers: usize) -> String {
         + &list("the concentrations", &format!("{name}CONCENTRATIONS"), &concentrations)
         + &list("the front of the functions' c", &format!("{name}COSINES"), &c[..numbers])
         + &list("the front of their s", &format!("{name}SINES"), &s[..numbers])
+        + &array("how the solver ended: 1 or 0, and its count", &format!("{name}ENDED"), &ended)
 }
 
 pub fn replay() -> String {

@@ -3,9 +3,10 @@
 use core::f64::consts::PI;
 
 use oracle::slepian::{RegionSlepian, cap, concentration_matrix, polygon, region};
-use oracle::standins::Node;
+use oracle::standins::{Node, noted};
 
 use crate::cases::Cases;
+use crate::ended::{Ended, most};
 use crate::entries::{geopotential_concentration_matrix, geopotential_region};
 use crate::guarded::Guarded;
 use crate::lent::{flat, latitude, nodes_of, pair};
@@ -152,6 +153,7 @@ fn call(tally: &mut Tally, asked: Asked, of: &Region, lmax: usize, nodes: usize,
     let mut work = Guarded::marked(lengths[5]);
     let mut outputs: Vec<Guarded<f64>> = lengths[6..].iter().map(|&length| Guarded::marked(length)).collect();
     let due = due(asked, lmax, nodes, lengths);
+    let mut ended = Ended::lent();
     let ours = unsafe {
         let (w, l, m) = ((weights.pointer(), weights.len()), (lats.pointer(), lats.len()), (marks.pointer(), marks.len()));
         let (s, c, f) = ((s.pointer(), s.len()), (c.pointer(), c.len()), (work.pointer(), work.len()));
@@ -161,17 +163,39 @@ fn call(tally: &mut Tally, asked: Asked, of: &Region, lmax: usize, nodes: usize,
                 geopotential_concentration_matrix(lmax, nodes, w.0, w.1, l.0, l.1, m.0, m.1, s.0, s.1, c.0, c.1, f.0, f.1, o[0].0, o[0].1)
             }
             Asked::Functions => geopotential_region(
-                lmax, nodes, w.0, w.1, l.0, l.1, m.0, m.1, s.0, s.1, c.0, c.1, f.0, f.1, o[0].0, o[0].1, o[1].0, o[1].1, o[2].0, o[2].1,
+                lmax,
+                nodes,
+                w.0,
+                w.1,
+                l.0,
+                l.1,
+                m.0,
+                m.1,
+                s.0,
+                s.1,
+                c.0,
+                c.1,
+                f.0,
+                f.1,
+                o[0].0,
+                o[0].1,
+                o[1].0,
+                o[1].1,
+                o[2].0,
+                o[2].1,
+                &mut ended.settled,
+                &mut ended.count,
             ),
         }
     };
-    let answers = answered(due, || answer(asked, of)).unwrap_or_else(|| vec![vec![]; outputs.len()]);
+    let (answers, notes) = answered(due, || noted(|| answer(asked, of))).unwrap_or_else(|| (vec![vec![]; outputs.len()], vec![]));
     // The used part of the working list is free after an accepted call.
     let used = if due == 0 && asked == Asked::Functions { stated(asked, lmax, nodes)[5] as usize } else { 0 };
     let kept = work.now()[..used].to_vec();
     let fault = fault(ours, due)
         .or_else(|| outputs.iter().zip(&answers).enumerate().find_map(|(k, (list, answer))| list.fault(&format!("output {k}"), answer)))
         .or_else(|| if due == 0 && asked == Asked::Matrix { asymmetry(lmax, outputs[0].now()) } else { None })
+        .or_else(|| ended.fault(notes.last().copied(), most((lmax.min(MAX_REGION) + 1).pow(2))))
         .or_else(|| work.fault("work", &kept))
         .or_else(|| marks.fault("marks", &[]))
         .or_else(|| {

@@ -2,8 +2,9 @@
 
 use oracle::Coefficients;
 use oracle::slepian::basin_average;
+use oracle::standins::noted;
 
-use super::caps::Cap;
+use super::caps::{Cap, told};
 use crate::coefficients::fields::fixed;
 use crate::constants::{array, number};
 use crate::functional::functional;
@@ -38,7 +39,7 @@ pub fn replay() -> String {
     }
     for lmax in [0, 1, 2, 6, 18] {
         let cap = Cap::of(lmax, 0.7);
-        let functions = cap.oracle();
+        let (functions, notes) = noted(|| cap.oracle());
         list(&format!("a cap of 0.7 rad, L {lmax}: its cosine"), &format!("CAP_{lmax}_COSINE"), &[cap.cosine]);
         list("the weights", &format!("CAP_{lmax}_WEIGHTS"), &cap.weights);
         list("the latitudes, sine and cosine", &format!("CAP_{lmax}_LATITUDES"), &flat(&cap.latitudes));
@@ -48,6 +49,7 @@ pub fn replay() -> String {
         let vectors = functions.iter().filter(|_| lmax <= 6).flat_map(|f| f.coefficients.iter().copied());
         let answer: Vec<f64> = orders.into_iter().chain(concentrations).chain(vectors).collect();
         list("orders, then concentrations, then vectors up to L 6", &format!("CAP_{lmax}"), &answer);
+        list("how the solver ended for each order: 1 or 0, then its count", &format!("CAP_{lmax}_SETTLED"), &told(&notes));
     }
     text
 }

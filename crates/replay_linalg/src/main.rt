@@ -1,15 +1,28 @@
-// Replays the oracle's answers for the crate linalg (solvers.rt): two lines for each matrix and call, how many of its values and of its vectors have
-// the oracle's bits.
+// Replays the oracle's answers for the crate linalg (solvers.rt): three lines for each matrix and call, how many of its values and of its vectors have
+// the oracle's bits, and whether the solver ended as the oracle's.
 mod solvers;
 
-use refusal::Answer;
+use linalg::Convergence;
+use linalg::Solution;
 use replay_print::show;
+use replay_print::show_words;
 ghost use Prim.Native.Nat.{_+_, _<_, _≤_};
 ghost use lib.ListN.{length};
 
-// The values of a call, and its vectors behind them.
-fn show_both(
-    answer: Answer,
+// How a solver ended: 1 where it settled or 0, and its count.
+fn show_ended(ended: Convergence, due: &[u64], at: usize)
+    requires { ⌜ at + 2 ≤ length (now due) ⌝ }
+{
+    let told = [
+        linalg::settled_number(ended.settled) as u64,
+        ended.count as u64,
+    ];
+    show_words(b"settled and count ", &told, due, at);
+}
+
+// The values of a call, its vectors behind them, and behind these how it ended.
+fn show_all(
+    answer: Solution,
     values: &[f64],
     vectors: &[f64],
     due: &[u64],
@@ -17,14 +30,15 @@ fn show_both(
     first: &[u8],
     second: &[u8],
 )
-    requires { ⌜ at + length (now values) + length (now vectors) ≤ length (now due) ⌝ ∗ ⌜ length (now first) ≤ 80 ⌝ ∗ ⌜ length (now second) ≤ 80 ⌝ }
+    requires { ⌜ at + length (now values) + length (now vectors) + 2 ≤ length (now due) ⌝ ∗ ⌜ length (now first) ≤ 80 ⌝ ∗ ⌜ length (now second) ≤ 80 ⌝ }
 {
     match answer {
-        Answer::Done => {
+        Solution::Solved(ended) => {
             show(first, values, due, at);
             show(second, vectors, due, at + values.len());
+            show_ended(ended, due, at + values.len() + vectors.len());
         }
-        Answer::Refused(_) => {
+        Solution::Refused(_) => {
             io::write_all(1, b"refused\n");
         }
     }
@@ -32,11 +46,11 @@ fn show_both(
 
 // A matrix of n rows by symmetric_eigen; the lists are those of its size.
 fn rotations(n: usize, a: &[f64], values: &mut [f64], vectors: &mut [f64], due: &[u64], at: usize)
-    requires { ⌜ at + length (now values) + length (now vectors) ≤ length (now due) ⌝ }
+    requires { ⌜ at + length (now values) + length (now vectors) + 2 ≤ length (now due) ⌝ }
 {
     let mut work = [0.0; 1292];
     let answer = linalg::symmetric_eigen(n, a, &mut work, values, vectors);
-    show_both(
+    show_all(
         answer,
         values,
         vectors,
@@ -49,11 +63,11 @@ fn rotations(n: usize, a: &[f64], values: &mut [f64], vectors: &mut [f64], due: 
 
 // A matrix of n rows by householder_ql.
 fn reflections(n: usize, a: &[f64], values: &mut [f64], vectors: &mut [f64], due: &[u64], at: usize)
-    requires { ⌜ at + length (now values) + length (now vectors) ≤ length (now due) ⌝ }
+    requires { ⌜ at + length (now values) + length (now vectors) + 2 ≤ length (now due) ⌝ }
 {
     let mut work = [0.0; 1292];
     let answer = linalg::householder_ql(n, a, &mut work, values, vectors);
-    show_both(
+    show_all(
         answer,
         values,
         vectors,
@@ -66,7 +80,7 @@ fn reflections(n: usize, a: &[f64], values: &mut [f64], vectors: &mut [f64], due
 
 // A matrix of n rows and `size` numbers by both calls, whose answers are due from index `at` of two lists.
 fn by_both(n: usize, size: usize, a: &[f64], rotated: &[u64], reflected: &[u64], at: usize)
-    requires { ⌜ n ≤ 34 ⌝ ∗ ⌜ size ≤ 1156 ⌝ ∗ ⌜ at + n + size ≤ length (now rotated) ⌝ ∗ ⌜ at + n + size ≤ length (now reflected) ⌝ }
+    requires { ⌜ n ≤ 34 ⌝ ∗ ⌜ size ≤ 1156 ⌝ ∗ ⌜ at + n + size + 2 ≤ length (now rotated) ⌝ ∗ ⌜ at + n + size + 2 ≤ length (now reflected) ⌝ }
 {
     let mut values = [0.0; 34];
     let mut vectors = [0.0; 1156];
@@ -94,10 +108,23 @@ fn loaded(
     at: usize,
 )
     requires { ⌜ n ≤ 34 ⌝ ∗ ⌜ length (now a) ≤ 1156 ⌝ ∗ ⌜ start + length (now a) ≤ length (now matrices) ⌝
-        ∗ ⌜ at + n + length (now a) ≤ length (now rotated) ⌝ ∗ ⌜ at + n + length (now a) ≤ length (now reflected) ⌝ }
+        ∗ ⌜ at + n + length (now a) + 2 ≤ length (now rotated) ⌝ ∗ ⌜ at + n + length (now a) + 2 ≤ length (now reflected) ⌝ }
 {
     replay::load(matrices, start, a);
     by_both(n, a.len(), a, rotated, reflected, at);
+}
+
+// The empty matrix.
+fn of_0() {
+    let a = [0.0; 1];
+    by_both(
+        0,
+        0,
+        &a[..0],
+        &solvers::SYMMETRIC_EIGEN_0,
+        &solvers::HOUSEHOLDER_QL_0,
+        0,
+    );
 }
 
 // Matrix j of 1 row.
@@ -112,7 +139,7 @@ fn of_1(j: usize)
         j,
         &solvers::SYMMETRIC_EIGEN_1,
         &solvers::HOUSEHOLDER_QL_1,
-        2 * j,
+        4 * j,
     );
 }
 
@@ -128,13 +155,13 @@ fn of_2(j: usize)
         4 * j,
         &solvers::SYMMETRIC_EIGEN_2,
         &solvers::HOUSEHOLDER_QL_2,
-        6 * j,
+        8 * j,
     );
 }
 
 // Matrix j of 3 rows.
 fn of_3(j: usize)
-    requires { ⌜ j < 2 ⌝ }
+    requires { ⌜ j < 4 ⌝ }
 {
     let mut a = [0.0; 9];
     loaded(
@@ -144,21 +171,23 @@ fn of_3(j: usize)
         9 * j,
         &solvers::SYMMETRIC_EIGEN_3,
         &solvers::HOUSEHOLDER_QL_3,
-        12 * j,
+        14 * j,
     );
 }
 
-// The matrix of 4 rows.
-fn of_4() {
+// Matrix j of 4 rows.
+fn of_4(j: usize)
+    requires { ⌜ j < 2 ⌝ }
+{
     let mut a = [0.0; 16];
     loaded(
         4,
         &mut a,
         &solvers::MATRICES_4,
-        0,
+        16 * j,
         &solvers::SYMMETRIC_EIGEN_4,
         &solvers::HOUSEHOLDER_QL_4,
-        0,
+        22 * j,
     );
 }
 
@@ -197,39 +226,39 @@ fn side(i: usize) -> f64 {
 
 // The dense matrix of n rows by both calls; a has as many places as it has numbers.
 fn of_dense(n: usize, a: &mut [f64], rotated: &[u64], reflected: &[u64])
-    requires { ⌜ 0 < n ⌝ ∗ ⌜ n ≤ 34 ⌝ ∗ ⌜ length (now a) ≤ 1156 ⌝ ∗ ⌜ n + length (now a) ≤ length (now rotated) ⌝
-        ∗ ⌜ n + length (now a) ≤ length (now reflected) ⌝ }
+    requires { ⌜ 0 < n ⌝ ∗ ⌜ n ≤ 34 ⌝ ∗ ⌜ length (now a) ≤ 1156 ⌝ ∗ ⌜ n + length (now a) + 2 ≤ length (now rotated) ⌝
+        ∗ ⌜ n + length (now a) + 2 ≤ length (now reflected) ⌝ }
 {
     dense(n, a);
     by_both(n, a.len(), a, rotated, reflected, 0);
 }
 
-// The values of n rows of ones by symmetric_eigen; a has as many places as they have numbers, and values one for each row.
-fn of_ones(n: usize, a: &[f64], values: &mut [f64], due: &[u64])
-    requires { ⌜ length (now values) ≤ length (now due) ⌝ }
+// The values of n rows of one number by symmetric_eigen, and how it ended; a has as many places as the rows have numbers, and values one for each row.
+fn of_alike(n: usize, a: &[f64], values: &mut [f64], due: &[u64])
+    requires { ⌜ length (now values) + 2 ≤ length (now due) ⌝ }
 {
     let mut work = [0.0; 1221];
     let mut vectors = [0.0; 1089];
     match linalg::symmetric_eigen(n, a, &mut work, values, &mut vectors) {
-        Answer::Done => show(b"symmetric_eigen ones values ", values, due, 0),
-        Answer::Refused(_) => {
+        Solution::Solved(ended) => {
+            show(b"symmetric_eigen of rows alike values ", values, due, 0);
+            show_ended(ended, due, values.len());
+        }
+        Solution::Refused(_) => {
             io::write_all(1, b"refused\n");
         }
     }
 }
 
-fn ones(n: usize, size: usize, due: &[u64])
-    requires { ⌜ n ≤ 33 ⌝ ∗ ⌜ size ≤ 1089 ⌝ ∗ ⌜ n ≤ length (now due) ⌝ }
+fn alike(n: usize, size: usize, cell: f64, due: &[u64])
+    requires { ⌜ n ≤ 33 ⌝ ∗ ⌜ size ≤ 1089 ⌝ ∗ ⌜ n + 2 ≤ length (now due) ⌝ }
 {
-    let a = [1.0; 1089];
+    let a = [cell; 1089];
     let mut values = [0.0; 33];
-    of_ones(n, &a[..size], &mut values[..n], due);
+    of_alike(n, &a[..size], &mut values[..n], due);
 }
 
-fn all_listed() {
-    of_1(0);
-    of_1(1);
-    of_1(2);
+fn all_of_2() {
     of_2(0);
     of_2(1);
     of_2(2);
@@ -237,9 +266,20 @@ fn all_listed() {
     of_2(4);
     of_2(5);
     of_2(6);
+}
+
+fn all_listed() {
+    of_0();
+    of_1(0);
+    of_1(1);
+    of_1(2);
+    all_of_2();
     of_3(0);
     of_3(1);
-    of_4();
+    of_3(2);
+    of_3(3);
+    of_4(0);
+    of_4(1);
     of_5();
 }
 
@@ -255,19 +295,22 @@ fn all_dense() {
     of_dense(34, &mut large, &solvers::DENSE_34, &solvers::DENSE_34);
 }
 
-fn all_ones() {
-    ones(27, 729, &solvers::ONES_27);
-    ones(28, 784, &solvers::ONES_28);
-    ones(29, 841, &solvers::ONES_29);
-    ones(30, 900, &solvers::ONES_30);
-    ones(31, 961, &solvers::ONES_31);
-    ones(32, 1024, &solvers::ONES_32);
-    ones(33, 1089, &solvers::ONES_33);
+// Ones, and no numbers at all.
+fn all_alike() {
+    alike(27, 729, 1.0, &solvers::ONES_27);
+    alike(28, 784, 1.0, &solvers::ONES_28);
+    alike(29, 841, 1.0, &solvers::ONES_29);
+    alike(30, 900, 1.0, &solvers::ONES_30);
+    alike(31, 961, 1.0, &solvers::ONES_31);
+    alike(32, 1024, 1.0, &solvers::ONES_32);
+    alike(33, 1089, 1.0, &solvers::ONES_33);
+    let nan = number::number_of_bits(0x7ff8_0000_0000_0000);
+    alike(33, 1089, nan, &solvers::NANS_33);
 }
 
 fn main() {
     replay_print::control();
     all_listed();
     all_dense();
-    all_ones();
+    all_alike();
 }

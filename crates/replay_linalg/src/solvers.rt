@@ -1,6 +1,12 @@
 // The oracle's answers for the crate linalg, numbers as bit patterns.
 // Written by `compare/run replay linalg FILE` (see compare/README.md), never by hand.
 
+// symmetric_eigen: values, vectors, and how it ended, of each
+pub const SYMMETRIC_EIGEN_0: [u64; 2] = [0x0000_0000_0000_0001, 0x0000_0000_0000_0000];
+
+// householder_ql: values, vectors, and how it ended, of each
+pub const HOUSEHOLDER_QL_0: [u64; 2] = [0x0000_0000_0000_0001, 0x0000_0000_0000_0000];
+
 // 3 matrices of 1 rows, one after the other
 pub const MATRICES_1: [u64; 3] = [
     0x401c_0000_0000_0000,
@@ -8,24 +14,36 @@ pub const MATRICES_1: [u64; 3] = [
     0x7ff8_0000_0000_0000,
 ];
 
-// symmetric_eigen: values, then vectors, of each
-pub const SYMMETRIC_EIGEN_1: [u64; 6] = [
+// symmetric_eigen: values, vectors, and how it ended, of each
+pub const SYMMETRIC_EIGEN_1: [u64; 12] = [
     0x401c_0000_0000_0000,
     0x3ff0_0000_0000_0000,
+    0x0000_0000_0000_0001,
+    0x0000_0000_0000_0000,
     0x8000_0000_0000_0000,
     0x3ff0_0000_0000_0000,
+    0x0000_0000_0000_0001,
+    0x0000_0000_0000_0000,
     0x7ff8_0000_0000_0000,
     0x3ff0_0000_0000_0000,
+    0x0000_0000_0000_0000,
+    0x0000_0000_0000_0064,
 ];
 
-// householder_ql: values, then vectors, of each
-pub const HOUSEHOLDER_QL_1: [u64; 6] = [
+// householder_ql: values, vectors, and how it ended, of each
+pub const HOUSEHOLDER_QL_1: [u64; 12] = [
     0x401c_0000_0000_0000,
     0x3ff0_0000_0000_0000,
+    0x0000_0000_0000_0001,
+    0x0000_0000_0000_0000,
     0x8000_0000_0000_0000,
     0x3ff0_0000_0000_0000,
+    0x0000_0000_0000_0001,
+    0x0000_0000_0000_0000,
     0x7ff8_0000_0000_0000,
     0x3ff0_0000_0000_0000,
+    0x0000_0000_0000_0001,
+    0x0000_0000_0000_0000,
 ];
 
 // 7 matrices of 2 rows, one after the other
@@ -60,8 +78,8 @@ pub const MATRICES_2: [u64; 28] = [
     0x0000_0000_0000_0000,
 ];
 
-// symmetric_eigen: values, then vectors, of each
-pub const SYMMETRIC_EIGEN_2: [u64; 42] = [
+// symmetric_eigen: values, vectors, and how it ended, of each
+pub const SYMMETRIC_EIGEN_2: [u64; 56] = [
     0x3df7_3876_306e_7590,
     0xbdf7_3875_f8da_aa07,
     0xbdf7_3875_fdb3_bd10,
@@ -69,91 +87,119 @@ pub const SYMMETRIC_EIGEN_2: [u64; 42] = [
     0xbff0_0000_0000_0003,
     0xbdf7_3875_fdb3_bd10,
     0x0000_0000_0000_0000,
+    0x0000_0000_0000_0064,
     0x0000_0000_0000_0000,
-    0x3ff0_0000_0000_0000,
     0x0000_0000_0000_0000,
-    0x0000_0000_0000_0000,
-    0x3ff0_0000_0000_0000,
-    0x3ff0_0000_0000_0000,
-    0x3ff0_0000_0000_0000,
     0x3ff0_0000_0000_0000,
     0x0000_0000_0000_0000,
     0x0000_0000_0000_0000,
     0x3ff0_0000_0000_0000,
+    0x0000_0000_0000_0001,
+    0x0000_0000_0000_0000,
+    0x3ff0_0000_0000_0000,
+    0x3ff0_0000_0000_0000,
+    0x3ff0_0000_0000_0000,
+    0x0000_0000_0000_0000,
+    0x0000_0000_0000_0000,
+    0x3ff0_0000_0000_0000,
+    0x0000_0000_0000_0001,
+    0x0000_0000_0000_0000,
     0x3fef_ffff_ffff_fffe,
     0x4007_ffff_ffff_ffff,
     0x3fe6_a09e_667f_3bcc,
     0x3fe6_a09e_667f_3bcc,
     0xbfe6_a09e_667f_3bcc,
     0x3fe6_a09e_667f_3bcc,
+    0x0000_0000_0000_0001,
+    0x0000_0000_0000_0001,
     0x7ff8_0000_0000_0000,
     0x7ff8_0000_0000_0000,
     0x7ff8_0000_0000_0000,
     0x7ff8_0000_0000_0000,
     0x7ff8_0000_0000_0000,
     0x7ff8_0000_0000_0000,
+    0x0000_0000_0000_0000,
+    0x0000_0000_0000_0064,
     0x7ff0_0000_0000_0000,
     0xfff0_0000_0000_0000,
     0x3ff0_0000_0000_0000,
     0x0000_0000_0000_0000,
     0x0000_0000_0000_0000,
     0x3ff0_0000_0000_0000,
+    0x0000_0000_0000_0001,
+    0x0000_0000_0000_0000,
     0x0000_0000_0000_0000,
     0x0000_0000_0000_0000,
     0x3ff0_0000_0000_0000,
     0x0000_0000_0000_0000,
     0x0000_0000_0000_0000,
     0x3ff0_0000_0000_0000,
+    0x0000_0000_0000_0001,
+    0x0000_0000_0000_0000,
 ];
 
-// householder_ql: values, then vectors, of each
-pub const HOUSEHOLDER_QL_2: [u64; 42] = [
+// householder_ql: values, vectors, and how it ended, of each
+pub const HOUSEHOLDER_QL_2: [u64; 56] = [
     0x0000_0000_0000_0000,
     0x0000_0000_0000_0000,
     0x3ff0_0000_0000_0000,
     0x0000_0000_0000_0000,
     0x0000_0000_0000_0000,
     0x3ff0_0000_0000_0000,
+    0x0000_0000_0000_0001,
+    0x0000_0000_0000_0000,
     0xbfef_ffff_ffff_fffe,
     0x3fef_ffff_ffff_fffe,
     0x3fe6_a09e_667f_3bcc,
     0x3fe6_a09e_667f_3bcc,
     0xbfe6_a09e_667f_3bcc,
     0x3fe6_a09e_667f_3bcc,
+    0x0000_0000_0000_0001,
+    0x0000_0000_0000_0001,
     0xe974_e718_d7d7_6259,
     0x6974_e718_d7d7_6259,
     0x3fe6_a09e_667f_3bcc,
     0x3fe6_a09e_667f_3bcc,
     0xbfe6_a09e_667f_3bcc,
     0x3fe6_a09e_667f_3bcc,
+    0x0000_0000_0000_0001,
+    0x0000_0000_0000_0001,
     0x3ff0_0000_0000_0001,
     0x4008_0000_0000_0000,
     0x3fe6_a09e_667f_3bcc,
     0x3fe6_a09e_667f_3bcc,
     0xbfe6_a09e_667f_3bcc,
     0x3fe6_a09e_667f_3bcc,
+    0x0000_0000_0000_0001,
+    0x0000_0000_0000_0001,
     0x3ff0_0000_0000_0000,
     0x3ff0_0000_0000_0000,
     0x3ff0_0000_0000_0000,
     0x0000_0000_0000_0000,
     0x0000_0000_0000_0000,
     0x3ff0_0000_0000_0000,
+    0x0000_0000_0000_0001,
+    0x0000_0000_0000_0000,
     0x7ff0_0000_0000_0000,
     0xfff0_0000_0000_0000,
     0x3ff0_0000_0000_0000,
     0x0000_0000_0000_0000,
     0x0000_0000_0000_0000,
     0x3ff0_0000_0000_0000,
+    0x0000_0000_0000_0001,
+    0x0000_0000_0000_0000,
     0x8000_0000_0000_0002,
     0x0000_0000_0000_0002,
     0x3fe8_0000_0000_0000,
     0x3ff4_0000_0000_0000,
     0xbff4_0000_0000_0000,
     0x3fe8_0000_0000_0000,
+    0x0000_0000_0000_0001,
+    0x0000_0000_0000_0002,
 ];
 
-// 2 matrices of 3 rows, one after the other
-pub const MATRICES_3: [u64; 18] = [
+// 4 matrices of 3 rows, one after the other
+pub const MATRICES_3: [u64; 36] = [
     0x0000_0000_0000_0000,
     0x0000_0000_0000_0000,
     0x0000_0000_0000_0000,
@@ -172,10 +218,28 @@ pub const MATRICES_3: [u64; 18] = [
     0x8000_0000_0000_0000,
     0x8000_0000_0000_0000,
     0x8000_0000_0000_0000,
+    0x0000_0000_0000_0006,
+    0x8000_0000_0000_0002,
+    0x8000_0000_0000_0004,
+    0x8000_0000_0000_0002,
+    0x0000_0000_0000_0005,
+    0x8000_0000_0000_0003,
+    0x8000_0000_0000_0004,
+    0x8000_0000_0000_0003,
+    0x0000_0000_0000_0006,
+    0x0000_0000_0000_0004,
+    0x8000_0000_0000_0007,
+    0x0000_0000_0000_0006,
+    0x8000_0000_0000_0007,
+    0x0000_0000_0000_0003,
+    0x0000_0000_0000_0004,
+    0x0000_0000_0000_0006,
+    0x0000_0000_0000_0004,
+    0x8000_0000_0000_0007,
 ];
 
-// symmetric_eigen: values, then vectors, of each
-pub const SYMMETRIC_EIGEN_3: [u64; 24] = [
+// symmetric_eigen: values, vectors, and how it ended, of each
+pub const SYMMETRIC_EIGEN_3: [u64; 56] = [
     0x0000_0000_0000_0000,
     0x0000_0000_0000_0000,
     0x0000_0000_0000_0000,
@@ -188,6 +252,8 @@ pub const SYMMETRIC_EIGEN_3: [u64; 24] = [
     0x0000_0000_0000_0000,
     0x0000_0000_0000_0000,
     0x3ff0_0000_0000_0000,
+    0x0000_0000_0000_0001,
+    0x0000_0000_0000_0000,
     0x8000_0000_0000_0000,
     0x8000_0000_0000_0000,
     0x8000_0000_0000_0000,
@@ -200,10 +266,40 @@ pub const SYMMETRIC_EIGEN_3: [u64; 24] = [
     0x0000_0000_0000_0000,
     0x0000_0000_0000_0000,
     0x3ff0_0000_0000_0000,
+    0x0000_0000_0000_0001,
+    0x0000_0000_0000_0000,
+    0x0000_0000_0000_0006,
+    0x0000_0000_0000_0005,
+    0x0000_0000_0000_0006,
+    0x3ff0_0000_0000_0000,
+    0x0000_0000_0000_0000,
+    0x0000_0000_0000_0000,
+    0x0000_0000_0000_0000,
+    0x3ff0_0000_0000_0000,
+    0x0000_0000_0000_0000,
+    0x0000_0000_0000_0000,
+    0x0000_0000_0000_0000,
+    0x3ff0_0000_0000_0000,
+    0x0000_0000_0000_0001,
+    0x0000_0000_0000_0000,
+    0x0000_0000_0000_0004,
+    0x0000_0000_0000_0003,
+    0x8000_0000_0000_0007,
+    0x3ff0_0000_0000_0000,
+    0x0000_0000_0000_0000,
+    0x0000_0000_0000_0000,
+    0x0000_0000_0000_0000,
+    0x3ff0_0000_0000_0000,
+    0x0000_0000_0000_0000,
+    0x0000_0000_0000_0000,
+    0x0000_0000_0000_0000,
+    0x3ff0_0000_0000_0000,
+    0x0000_0000_0000_0001,
+    0x0000_0000_0000_0000,
 ];
 
-// householder_ql: values, then vectors, of each
-pub const HOUSEHOLDER_QL_3: [u64; 24] = [
+// householder_ql: values, vectors, and how it ended, of each
+pub const HOUSEHOLDER_QL_3: [u64; 56] = [
     0x0000_0000_0000_0000,
     0x0000_0000_0000_0000,
     0x0000_0000_0000_0000,
@@ -216,6 +312,8 @@ pub const HOUSEHOLDER_QL_3: [u64; 24] = [
     0x0000_0000_0000_0000,
     0x0000_0000_0000_0000,
     0x3ff0_0000_0000_0000,
+    0x0000_0000_0000_0001,
+    0x0000_0000_0000_0000,
     0x8000_0000_0000_0000,
     0x8000_0000_0000_0000,
     0x8000_0000_0000_0000,
@@ -228,10 +326,56 @@ pub const HOUSEHOLDER_QL_3: [u64; 24] = [
     0x0000_0000_0000_0000,
     0x0000_0000_0000_0000,
     0x3ff0_0000_0000_0000,
+    0x0000_0000_0000_0001,
+    0x0000_0000_0000_0000,
+    0x0000_0000_0000_0006,
+    0x0000_0000_0000_0009,
+    0x0000_0000_0000_0002,
+    0xbfda_aaaa_aaaa_aaaa,
+    0xbff4_0000_0000_0000,
+    0x3fd9_9999_9999_999a,
+    0x3fec_0000_0000_0000,
+    0x3fa5_5555_5555_5560,
+    0x3fe4_cccc_cccc_cccd,
+    0xbfe8_aaaa_aaaa_aaab,
+    0x3fde_aaaa_aaaa_aaab,
+    0x3fe4_cccc_cccc_cccd,
+    0x0000_0000_0000_0001,
+    0x0000_0000_0000_0004,
+    0x0000_0000_0000_000a,
+    0x8000_0000_0000_0001,
+    0x8000_0000_0000_0009,
+    0x3fe5_5555_5555_5555,
+    0xbfe1_abf4_0fc8_6806,
+    0xbfe1_c5cf_4482_df1b,
+    0xbfe5_5555_5555_5555,
+    0xbfe7_988e_7bf4_07b6,
+    0xbfd7_c3a6_7e80_2389,
+    0xbfc2_f684_bda1_2f68,
+    0x3fe6_bb64_3897_c5c7,
+    0xbfee_74ff_b51f_0682,
+    0x0000_0000_0000_0000,
+    0x0000_0000_0000_0065,
 ];
 
-// 1 matrices of 4 rows, one after the other
-pub const MATRICES_4: [u64; 16] = [
+// 2 matrices of 4 rows, one after the other
+pub const MATRICES_4: [u64; 32] = [
+    0x8000_0000_0000_0003,
+    0x0000_0000_0000_0005,
+    0x8000_0000_0000_0003,
+    0x8000_0000_0000_0001,
+    0x0000_0000_0000_0005,
+    0x8000_0000_0000_0004,
+    0x0000_0000_0000_0007,
+    0x0000_0000_0000_0006,
+    0x8000_0000_0000_0003,
+    0x0000_0000_0000_0007,
+    0x8000_0000_0000_0005,
+    0x8000_0000_0000_0001,
+    0x8000_0000_0000_0001,
+    0x0000_0000_0000_0006,
+    0x8000_0000_0000_0001,
+    0x8000_0000_0000_0002,
     0x0000_0000_0000_0000,
     0x0000_0000_0000_0001,
     0x0000_0000_0000_0000,
@@ -250,8 +394,30 @@ pub const MATRICES_4: [u64; 16] = [
     0x0000_0000_0000_0000,
 ];
 
-// symmetric_eigen: values, then vectors, of each
-pub const SYMMETRIC_EIGEN_4: [u64; 20] = [
+// symmetric_eigen: values, vectors, and how it ended, of each
+pub const SYMMETRIC_EIGEN_4: [u64; 44] = [
+    0x8000_0000_0000_0003,
+    0x8000_0000_0000_0004,
+    0x8000_0000_0000_0005,
+    0x8000_0000_0000_0002,
+    0x3ff0_0000_0000_0000,
+    0x0000_0000_0000_0000,
+    0x0000_0000_0000_0000,
+    0x0000_0000_0000_0000,
+    0x0000_0000_0000_0000,
+    0x3ff0_0000_0000_0000,
+    0x0000_0000_0000_0000,
+    0x0000_0000_0000_0000,
+    0x0000_0000_0000_0000,
+    0x0000_0000_0000_0000,
+    0x3ff0_0000_0000_0000,
+    0x0000_0000_0000_0000,
+    0x0000_0000_0000_0000,
+    0x0000_0000_0000_0000,
+    0x0000_0000_0000_0000,
+    0x3ff0_0000_0000_0000,
+    0x0000_0000_0000_0001,
+    0x0000_0000_0000_0000,
     0x0000_0000_0000_0000,
     0x0000_0000_0000_0000,
     0x0000_0000_0000_0000,
@@ -272,10 +438,34 @@ pub const SYMMETRIC_EIGEN_4: [u64; 20] = [
     0x0000_0000_0000_0000,
     0x0000_0000_0000_0000,
     0x3ff0_0000_0000_0000,
+    0x0000_0000_0000_0001,
+    0x0000_0000_0000_0000,
 ];
 
-// householder_ql: values, then vectors, of each
-pub const HOUSEHOLDER_QL_4: [u64; 20] = [
+// householder_ql: values, vectors, and how it ended, of each
+pub const HOUSEHOLDER_QL_4: [u64; 44] = [
+    0x0000_0000_0000_0008,
+    0x8000_0000_0000_0008,
+    0x8000_0000_0000_0002,
+    0x8000_0000_0000_000c,
+    0x3fe5_5555_5555_5556,
+    0x3ff5_5555_5555_5555,
+    0x4010_6a85_8f1d_7f96,
+    0x4011_6d4a_7b7e_fa43,
+    0x3ff0_8e38_e38e_38e3,
+    0xbfd3_1c71_c71c_71c7,
+    0xc02a_0aa3_ff7b_1204,
+    0xc014_5fc2_5927_744c,
+    0x3fe8_871c_71c7_1c72,
+    0xbfe2_238e_38e3_8e38,
+    0x4031_1e30_2a92_b66a,
+    0x3ffc_e175_4ae8_10fe,
+    0xbfb7_8e38_e38e_38e4,
+    0x3fce_e38e_38e3_8e38,
+    0x4015_8677_f496_78ec,
+    0xc036_a819_ad6d_a49c,
+    0x0000_0000_0000_0000,
+    0x0000_0000_0000_00c9,
     0x0000_0000_0000_0003,
     0x0000_0000_0000_0000,
     0x8000_0000_0000_0007,
@@ -296,6 +486,8 @@ pub const HOUSEHOLDER_QL_4: [u64; 20] = [
     0xbff0_9b33_3333_3333,
     0xbff9_3b33_3333_3333,
     0xbf9b_c71c_71c7_1ca0,
+    0x0000_0000_0000_0001,
+    0x0000_0000_0000_0006,
 ];
 
 // 1 matrices of 5 rows, one after the other
@@ -327,8 +519,8 @@ pub const MATRICES_5: [u64; 25] = [
     0x8000_0000_0000_0000,
 ];
 
-// symmetric_eigen: values, then vectors, of each
-pub const SYMMETRIC_EIGEN_5: [u64; 30] = [
+// symmetric_eigen: values, vectors, and how it ended, of each
+pub const SYMMETRIC_EIGEN_5: [u64; 32] = [
     0x8000_0000_0000_0000,
     0x8000_0000_0000_0000,
     0x8000_0000_0000_0000,
@@ -359,10 +551,12 @@ pub const SYMMETRIC_EIGEN_5: [u64; 30] = [
     0x0000_0000_0000_0000,
     0x0000_0000_0000_0000,
     0x3ff0_0000_0000_0000,
+    0x0000_0000_0000_0001,
+    0x0000_0000_0000_0000,
 ];
 
-// householder_ql: values, then vectors, of each
-pub const HOUSEHOLDER_QL_5: [u64; 30] = [
+// householder_ql: values, vectors, and how it ended, of each
+pub const HOUSEHOLDER_QL_5: [u64; 32] = [
     0x81a5_6e1f_c2f8_f356,
     0x8000_0000_05e8_023f,
     0x01a5_6e1f_c2f8_f357,
@@ -393,10 +587,12 @@ pub const HOUSEHOLDER_QL_5: [u64; 30] = [
     0x3fe0_0000_0000_0001,
     0xbfd2_79a7_4590_331e,
     0xbfd2_79a7_4590_331b,
+    0x0000_0000_0000_0001,
+    0x0000_0000_0000_000b,
 ];
 
-// symmetric_eigen of 27 rows of ones: its values
-pub const ONES_27: [u64; 27] = [
+// symmetric_eigen of 27 rows of ones: its values, and how it ended
+pub const ONES_27: [u64; 29] = [
     0x0000_0000_0000_0000,
     0x403a_ffff_ffff_fffe,
     0x3cb1_33a8_8414_21d8,
@@ -424,10 +620,12 @@ pub const ONES_27: [u64; 27] = [
     0xbc8e_1364_c4c7_c31c,
     0x3c85_69ab_8845_6b17,
     0xbc97_d9ac_e7fc_dcc2,
+    0x0000_0000_0000_0000,
+    0x0000_0000_0000_0064,
 ];
 
-// symmetric_eigen of 28 rows of ones: its values
-pub const ONES_28: [u64; 28] = [
+// symmetric_eigen of 28 rows of ones: its values, and how it ended
+pub const ONES_28: [u64; 30] = [
     0x0000_0000_0000_0000,
     0x403b_ffff_ffff_fffd,
     0x3ca4_7beb_116c_fb78,
@@ -456,10 +654,12 @@ pub const ONES_28: [u64; 28] = [
     0x3c7c_cd9c_6ab6_16f6,
     0xbc77_878e_bf93_dfd7,
     0x3caa_8931_43ba_f871,
+    0x0000_0000_0000_0000,
+    0x0000_0000_0000_0064,
 ];
 
-// symmetric_eigen of 29 rows of ones: its values
-pub const ONES_29: [u64; 29] = [
+// symmetric_eigen of 29 rows of ones: its values, and how it ended
+pub const ONES_29: [u64; 31] = [
     0x0000_0000_0000_0000,
     0x403c_ffff_ffff_fffc,
     0x3c80_cbd7_2acf_518c,
@@ -489,10 +689,12 @@ pub const ONES_29: [u64; 29] = [
     0xbc72_1cc8_b68e_fffe,
     0x3caf_20fe_aa4e_ff90,
     0x3ca0_caa5_1fea_2ddd,
+    0x0000_0000_0000_0000,
+    0x0000_0000_0000_0064,
 ];
 
-// symmetric_eigen of 30 rows of ones: its values
-pub const ONES_30: [u64; 30] = [
+// symmetric_eigen of 30 rows of ones: its values, and how it ended
+pub const ONES_30: [u64; 32] = [
     0x0000_0000_0000_0000,
     0x403d_ffff_ffff_fffb,
     0xbc91_3c4c_0699_60fc,
@@ -523,10 +725,12 @@ pub const ONES_30: [u64; 30] = [
     0x3c8f_7801_e576_537f,
     0x3c99_fe30_1bb8_f97a,
     0xbc8b_4e6f_792a_e146,
+    0x0000_0000_0000_0000,
+    0x0000_0000_0000_0064,
 ];
 
-// symmetric_eigen of 31 rows of ones: its values
-pub const ONES_31: [u64; 31] = [
+// symmetric_eigen of 31 rows of ones: its values, and how it ended
+pub const ONES_31: [u64; 33] = [
     0x0000_0000_0000_0000,
     0x403e_ffff_ffff_fff9,
     0xbc73_b3e1_e38e_1feb,
@@ -558,10 +762,12 @@ pub const ONES_31: [u64; 31] = [
     0x3ca8_5caa_5718_a9b0,
     0x3c53_c7cd_5e42_734c,
     0xbca3_6ead_15d5_21ed,
+    0x0000_0000_0000_0000,
+    0x0000_0000_0000_0064,
 ];
 
-// symmetric_eigen of 32 rows of ones: its values
-pub const ONES_32: [u64; 32] = [
+// symmetric_eigen of 32 rows of ones: its values, and how it ended
+pub const ONES_32: [u64; 34] = [
     0x0000_0000_0000_0000,
     0x403f_ffff_ffff_fff9,
     0x3c77_d25f_6580_3f0e,
@@ -594,10 +800,12 @@ pub const ONES_32: [u64; 32] = [
     0x3c90_a6ab_db20_829b,
     0xbcad_9fba_e519_a9f7,
     0xbc80_98b8_7b65_3911,
+    0x0000_0000_0000_0000,
+    0x0000_0000_0000_0064,
 ];
 
-// symmetric_eigen of 33 rows of ones: its values
-pub const ONES_33: [u64; 33] = [
+// symmetric_eigen of 33 rows of ones: its values, and how it ended
+pub const ONES_33: [u64; 35] = [
     0xbcc8_0000_0000_0000,
     0x4040_8000_0000_0000,
     0xbd26_0000_0000_0000,
@@ -631,10 +839,51 @@ pub const ONES_33: [u64; 33] = [
     0x0000_0000_0000_0000,
     0x0000_0000_0000_0000,
     0x0000_0000_0000_0000,
+    0x0000_0000_0000_0001,
+    0x0000_0000_0000_0005,
 ];
 
-// symmetric_eigen of a dense matrix of 5 rows: values, then vectors
-pub const SYMMETRIC_EIGEN_DENSE_5: [u64; 30] = [
+// symmetric_eigen of 33 rows of NaN: its values, and how it ended
+pub const NANS_33: [u64; 35] = [
+    0x7ff8_0000_0000_0000,
+    0x7ff8_0000_0000_0000,
+    0x7ff8_0000_0000_0000,
+    0x7ff8_0000_0000_0000,
+    0x7ff8_0000_0000_0000,
+    0x7ff8_0000_0000_0000,
+    0x7ff8_0000_0000_0000,
+    0x7ff8_0000_0000_0000,
+    0x7ff8_0000_0000_0000,
+    0x7ff8_0000_0000_0000,
+    0x7ff8_0000_0000_0000,
+    0x7ff8_0000_0000_0000,
+    0x7ff8_0000_0000_0000,
+    0x7ff8_0000_0000_0000,
+    0x7ff8_0000_0000_0000,
+    0x7ff8_0000_0000_0000,
+    0x7ff8_0000_0000_0000,
+    0x7ff8_0000_0000_0000,
+    0x7ff8_0000_0000_0000,
+    0x7ff8_0000_0000_0000,
+    0x7ff8_0000_0000_0000,
+    0x7ff8_0000_0000_0000,
+    0x7ff8_0000_0000_0000,
+    0x7ff8_0000_0000_0000,
+    0x7ff8_0000_0000_0000,
+    0x7ff8_0000_0000_0000,
+    0x7ff8_0000_0000_0000,
+    0x7ff8_0000_0000_0000,
+    0x7ff8_0000_0000_0000,
+    0x7ff8_0000_0000_0000,
+    0x7ff8_0000_0000_0000,
+    0x7ff8_0000_0000_0000,
+    0x7ff8_0000_0000_0000,
+    0x0000_0000_0000_0001,
+    0x0000_0000_0000_0000,
+];
+
+// symmetric_eigen of a dense matrix of 5 rows: values, vectors, and how it ended
+pub const SYMMETRIC_EIGEN_DENSE_5: [u64; 32] = [
     0xc04d_c981_f25a_a476,
     0x4066_d9fe_d216_d75f,
     0x4048_eb38_5747_9c77,
@@ -665,10 +914,12 @@ pub const SYMMETRIC_EIGEN_DENSE_5: [u64; 30] = [
     0x3fd1_66e8_169d_405b,
     0x3fb4_cf9b_46d1_59f7,
     0x3fe2_7e9d_7c7e_b239,
+    0x0000_0000_0000_0001,
+    0x0000_0000_0000_0005,
 ];
 
-// householder_ql of a dense matrix of 5 rows: values, then vectors
-pub const HOUSEHOLDER_QL_DENSE_5: [u64; 30] = [
+// householder_ql of a dense matrix of 5 rows: values, vectors, and how it ended
+pub const HOUSEHOLDER_QL_DENSE_5: [u64; 32] = [
     0x4066_d9fe_d216_d75c,
     0x405a_3541_4102_1654,
     0x403b_1797_a166_fbd0,
@@ -699,10 +950,12 @@ pub const HOUSEHOLDER_QL_DENSE_5: [u64; 30] = [
     0xbfe2_7e9d_7c7e_b232,
     0x3fd1_66e8_169d_405a,
     0xbfe1_f8b5_5fed_d03a,
+    0x0000_0000_0000_0001,
+    0x0000_0000_0000_000c,
 ];
 
-// both of a dense matrix of 34 rows: values, then vectors
-pub const DENSE_34: [u64; 1190] = [
+// both of a dense matrix of 34 rows: values, vectors, and how it ended
+pub const DENSE_34: [u64; 1192] = [
     0xc053_78eb_c492_9d22,
     0xc050_f4e8_8034_8a16,
     0xc04e_711f_31e7_849f,
@@ -1893,4 +2146,6 @@ pub const DENSE_34: [u64; 1190] = [
     0x3fb3_0bef_4aaf_4bb1,
     0x3fd0_bc6e_bab2_d850,
     0x3f8c_b0e3_09e7_b548,
+    0x0000_0000_0000_0001,
+    0x0000_0000_0000_0045,
 ];

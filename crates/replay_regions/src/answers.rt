@@ -47,6 +47,9 @@ pub const OF_0_COSINES: [u64; 1] = [0x3ff0_0000_0000_0000];
 // the front of their s
 pub const OF_0_SINES: [u64; 1] = [0x0000_0000_0000_0000];
 
+// how the solver ended: 1 or 0, and its count
+pub const OF_0_ENDED: [u64; 2] = [0x0000_0000_0000_0001, 0x0000_0000_0000_0000];
+
 // a region of degree 1: its weights
 pub const OF_1_WEIGHTS: [u64; 3] = [
     0x3fe9_b2fc_f8f0_916c,
@@ -152,6 +155,9 @@ pub const OF_1_SINES: [u64; 12] = [
     0x0000_0000_0000_0000,
     0x3fe1_e3de_9bae_8abb,
 ];
+
+// how the solver ended: 1 or 0, and its count
+pub const OF_1_ENDED: [u64; 2] = [0x0000_0000_0000_0001, 0x0000_0000_0000_0005];
 
 // a region of degree 2: its weights
 pub const OF_2_WEIGHTS: [u64; 3] = [
@@ -425,6 +431,9 @@ pub const OF_2_SINES: [u64; 54] = [
     0xbfd0_ae67_12a4_ce53,
 ];
 
+// how the solver ended: 1 or 0, and its count
+pub const OF_2_ENDED: [u64; 2] = [0x0000_0000_0000_0001, 0x0000_0000_0000_0005];
+
 // a region of degree 1: its weights
 pub const STRANGE_WEIGHTS: [u64; 3] = [
     0x01a5_6e1f_c2f8_f359,
@@ -530,6 +539,9 @@ pub const STRANGE_SINES: [u64; 12] = [
     0x0000_0000_0000_0000,
     0x0000_0000_0000_0000,
 ];
+
+// how the solver ended: 1 or 0, and its count
+pub const STRANGE_ENDED: [u64; 2] = [0x0000_0000_0000_0001, 0x0000_0000_0000_0000];
 
 // a region of degree 1: its weights
 pub const LARGE_WEIGHTS: [u64; 3] = [
@@ -637,6 +649,9 @@ pub const LARGE_SINES: [u64; 12] = [
     0x3ff0_0000_0000_0000,
 ];
 
+// how the solver ended: 1 or 0, and its count
+pub const LARGE_ENDED: [u64; 2] = [0x0000_0000_0000_0001, 0x0000_0000_0000_0000];
+
 // a region of degree 1: its weights
 pub const NONE_WEIGHTS: [u64; 1] = [0x3fe6_6666_6666_6666];
 
@@ -719,6 +734,9 @@ pub const NONE_SINES: [u64; 12] = [
     0x0000_0000_0000_0000,
     0x0000_0000_0000_0000,
 ];
+
+// how the solver ended: 1 or 0, and its count
+pub const NONE_ENDED: [u64; 2] = [0x0000_0000_0000_0000, 0x0000_0000_0000_0064];
 
 // a region of degree 5: its weights
 pub const OF_5_WEIGHTS: [u64; 2] = [0x3fe9_b2fc_f8f0_916c, 0x3fea_5e3a_7dea_383e];
@@ -993,3 +1011,6 @@ pub const OF_5_SINES: [u64; 42] = [
     0x3fb4_56cd_26de_1f69,
     0x3fab_7cf2_8825_c501,
 ];
+
+// how the solver ended: 1 or 0, and its count
+pub const OF_5_ENDED: [u64; 2] = [0x0000_0000_0000_0001, 0x0000_0000_0000_0051];

@@ -173,8 +173,26 @@ fn caps_are_ranked() {
     assert!(lines.iter().all(|line| line.split(',').count() == 3 + 19));
     // The best of a large cap lack so little of 1 that twelve digits don't show it.
     let large = geoid(&["caps", "--degree", "30", "--angle", "90", "--top", "2"]).unwrap();
-    assert!(large.lines().last().unwrap().contains("  1 - ") || large.lines().last().unwrap().contains("  1 + "), "{large}");
+    let second = large.lines().rev().nth(1).unwrap();
+    assert!(second.contains("  1 - ") || second.contains("  1 + "), "{large}");
     assert!(geoid(&["caps", "--degree", "181", "--angle", "40"]).unwrap_err().contains("from 0 to 180"));
+}
+
+#[test]
+fn caps_tell_whether_their_orders_settled() {
+    let folder = Folder::new();
+    let csv = folder.file("caps.csv");
+    let caps = |words: &[&str]| geoid(&[&["caps"], words].concat()).unwrap();
+    let text = caps(&["--degree", "18", "--angle", "40", "--top", "2", "--out", &csv]);
+    let end = ["     2      1  0.999999967851", "all 19 orders settled (at most 7 sweeps)", &format!("{csv}: 2 functions")];
+    assert!(text.ends_with(&format!("\n{}\n", end.join("\n"))), "{text}");
+    assert!(!fs::read_to_string(&csv).unwrap().contains("settle"), "the file is as it was");
+    assert!(caps(&["--degree", "0", "--angle", "40"]).ends_with("\nthe one order settled (at most 0 sweeps)\n"));
+    // Above degree 31 the first orders go by rounds; how many depends on the last bits.
+    let text = caps(&["--degree", "40", "--angle", "40"]);
+    let line = text.lines().last().unwrap();
+    assert!(line.starts_with("all 41 orders settled (at most ") && line.contains(" sweeps, ") && line.ends_with(" rounds)"), "{line}");
+    assert!(geoid(&["caps", "--help"]).unwrap().contains("an order that did not settle still has its functions"));
 }
 
 #[test]

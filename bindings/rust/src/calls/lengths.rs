@@ -59,8 +59,8 @@ lengths! {
     fn symmetric_eigen(n) -> 4 = geopotential_symmetric_eigen_lengths;
     /// a, work, values, vectors.
     fn householder_ql(n) -> 4 = geopotential_householder_ql_lengths;
-    /// weights, latitudes, work, orders, concentrations, vectors.
-    fn polar_cap(lmax) -> 6 = geopotential_polar_cap_lengths;
+    /// weights, latitudes, work, orders, concentrations, vectors, settled.
+    fn polar_cap(lmax) -> 7 = geopotential_polar_cap_lengths;
     /// weights, latitudes, marks, s, c, work, matrix.
     fn concentration_matrix(lmax, nodes) -> 7 = geopotential_concentration_matrix_lengths;
     /// weights, latitudes, marks, s, c, work, concentrations, cs, ss.
@@ -129,8 +129,8 @@ mod tests {
         assert_eq!(symmetric_eigen(0), Ok([0; 4]));
         assert_eq!(symmetric_eigen(512), Ok([512 * 512, 512 * 516, 512, 512 * 512]));
         assert_eq!(householder_ql(3), Ok([9, 21, 3, 9]));
-        assert_eq!(polar_cap(0), Ok([1, 2, 15, 1, 1, 1]));
-        assert_eq!(polar_cap(2), Ok([3, 6, 95, 6, 6, 14]));
+        assert_eq!(polar_cap(0), Ok([1, 2, 15, 1, 1, 1, 2]));
+        assert_eq!(polar_cap(2), Ok([3, 6, 95, 6, 6, 14, 6]));
         assert_eq!(concentration_matrix(1, 5), Ok([5, 10, 5, 15, 15, 9, 16]));
         assert_eq!(region(1, 5), Ok([5, 10, 5, 15, 15, 93, 4, 12, 12]));
     }

@@ -2,11 +2,19 @@
 
 use crate::Refusal;
 use crate::ffi::*;
+use crate::linalg::Convergence;
 use crate::nodes::Nodes;
 
-pub fn symmetric_eigen(n: usize, a: &[f64], work: &mut [f64], values: &mut [f64], vectors: &mut [f64]) -> Result<(), Refusal> {
-    // SAFETY: each list is one slice's; the last three are borrowed mutably.
-    Refusal::check(unsafe {
+/// What a solver's entry tells at two places that are made for this call alone.
+fn solved(entry: impl FnOnce(*mut u32, *mut usize) -> u32) -> Result<Convergence, Refusal> {
+    let (mut settled, mut count) = (0, 0);
+    Refusal::check(entry(&mut settled, &mut count))?;
+    Ok(Convergence { settled: settled == 1, count })
+}
+
+pub fn symmetric_eigen(n: usize, a: &[f64], work: &mut [f64], values: &mut [f64], vectors: &mut [f64]) -> Result<Convergence, Refusal> {
+    // SAFETY: each list is one slice's; the last three are borrowed mutably. The two places are `solved`'s.
+    solved(|settled, count| unsafe {
         geopotential_symmetric_eigen(
             n,
             a.as_ptr(),
@@ -17,13 +25,15 @@ pub fn symmetric_eigen(n: usize, a: &[f64], work: &mut [f64], values: &mut [f64]
             values.len(),
             vectors.as_mut_ptr(),
             vectors.len(),
+            settled,
+            count,
         )
     })
 }
 
-pub fn householder_ql(n: usize, a: &[f64], work: &mut [f64], values: &mut [f64], vectors: &mut [f64]) -> Result<(), Refusal> {
-    // SAFETY: each list is one slice's; the last three are borrowed mutably.
-    Refusal::check(unsafe {
+pub fn householder_ql(n: usize, a: &[f64], work: &mut [f64], values: &mut [f64], vectors: &mut [f64]) -> Result<Convergence, Refusal> {
+    // SAFETY: each list is one slice's; the last three are borrowed mutably. The two places are `solved`'s.
+    solved(|settled, count| unsafe {
         geopotential_householder_ql(
             n,
             a.as_ptr(),
@@ -34,6 +44,8 @@ pub fn householder_ql(n: usize, a: &[f64], work: &mut [f64], values: &mut [f64],
             values.len(),
             vectors.as_mut_ptr(),
             vectors.len(),
+            settled,
+            count,
         )
     })
 }
@@ -45,7 +57,7 @@ pub struct Ranked<'a> {
     pub vectors: &'a mut [f64],
 }
 
-/// `latitudes` has the pairs of the nodes over the cap, whose angle has this cosine.
+/// `latitudes` has the pairs of the nodes over the cap, whose angle has this cosine; `settled` is by rising order, not ranked.
 pub fn polar_cap(
     lmax: usize,
     cosine: f64,
@@ -53,8 +65,9 @@ pub fn polar_cap(
     latitudes: &[f64],
     work: &mut [f64],
     Ranked { orders, concentrations, vectors }: &mut Ranked,
+    settled: &mut [f64],
 ) -> Result<(), Refusal> {
-    // SAFETY: each list is one slice's; the last four are borrowed mutably.
+    // SAFETY: each list is one slice's; the last five are borrowed mutably.
     Refusal::check(unsafe {
         geopotential_polar_cap(
             lmax,
@@ -71,6 +84,8 @@ pub fn polar_cap(
             concentrations.len(),
             vectors.as_mut_ptr(),
             vectors.len(),
+            settled.as_mut_ptr(),
+            settled.len(),
         )
     })
 }
@@ -107,10 +122,10 @@ pub struct RankedTables<'a> {
     pub ss: &'a mut [f64],
 }
 
-pub fn region(nodes: &Nodes, work: &mut [f64], RankedTables { concentrations, cs, ss }: &mut RankedTables) -> Result<(), Refusal> {
+pub fn region(nodes: &Nodes, work: &mut [f64], RankedTables { concentrations, cs, ss }: &mut RankedTables) -> Result<Convergence, Refusal> {
     let Nodes { lmax, weights, latitudes, marks, s, c } = nodes;
-    // SAFETY: each list is one slice's; the last four are borrowed mutably.
-    Refusal::check(unsafe {
+    // SAFETY: each list is one slice's; the last four are borrowed mutably. The two places are `solved`'s.
+    solved(|settled, count| unsafe {
         geopotential_region(
             *lmax,
             nodes.len(),
@@ -132,6 +147,8 @@ pub fn region(nodes: &Nodes, work: &mut [f64], RankedTables { concentrations, cs
             cs.len(),
             ss.as_mut_ptr(),
             ss.len(),
+            settled,
+            count,
         )
     })
 }

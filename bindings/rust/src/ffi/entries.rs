@@ -332,6 +332,7 @@ unsafe extern "C" {
         out_len: usize,
     ) -> u32;
 
+    /// `settled` (1 or 0) and `count` tell how the solver ended.
     pub fn geopotential_symmetric_eigen(
         n: usize,
         a: *const f64,
@@ -342,6 +343,8 @@ unsafe extern "C" {
         values_len: usize,
         vectors: *mut f64,
         vectors_len: usize,
+        settled: *mut u32,
+        count: *mut usize,
     ) -> u32;
     pub fn geopotential_householder_ql(
         n: usize,
@@ -353,7 +356,10 @@ unsafe extern "C" {
         values_len: usize,
         vectors: *mut f64,
         vectors_len: usize,
+        settled: *mut u32,
+        count: *mut usize,
     ) -> u32;
+    /// `settled` has two numbers for each order, by rising order: 1 or 0, then the count.
     pub fn geopotential_polar_cap(
         lmax: usize,
         cosine: f64,
@@ -369,6 +375,8 @@ unsafe extern "C" {
         concentrations_len: usize,
         vectors: *mut f64,
         vectors_len: usize,
+        settled: *mut f64,
+        settled_len: usize,
     ) -> u32;
     pub fn geopotential_concentration_matrix(
         lmax: usize,
@@ -409,5 +417,7 @@ unsafe extern "C" {
         cs_len: usize,
         ss: *mut f64,
         ss_len: usize,
+        settled: *mut u32,
+        count: *mut usize,
     ) -> u32;
 }

@@ -2,7 +2,8 @@
 
 use std::fmt::Write;
 
-use geopotential::slepian::{Slepian, try_polar_cap};
+use geopotential::linalg::Convergence;
+use geopotential::slepian::{Slepian, try_polar_cap_with};
 
 use super::Command;
 use crate::arguments::{Arguments, Opt};
@@ -13,6 +14,10 @@ use crate::output::write_whole;
 const LARGEST_DEGREE: usize = 180;
 /// How many functions the table shows where `--top` does not say.
 const SHOWN: usize = 20;
+/// The most rows of a matrix that is solved by sweeps; above it there are rounds.
+const SWEPT_ROWS: usize = 32;
+/// How many orders that did not settle are named.
+const NAMED: usize = 10;
 
 pub const COMMAND: Command = Command {
     name: "caps",
@@ -27,7 +32,9 @@ pub const COMMAND: Command = Command {
     ],
     details: "An order above 0 stands for two functions, with the cosine and the sine of the order times the longitude.\n\
               The Shannon number is about how many functions are well concentrated. Degree 180 takes some seconds.\n\
-              Where twelve digits of a concentration would say 1, the table says 1 less what it lacks.\n",
+              Where twelve digits of a concentration would say 1, the table says 1 less what it lacks.\n\
+              The line under the table says whether the eigenvalue solver settled for every order, shown or not, and after how many sweeps\n\
+              (a matrix of up to 32 rows, L - order + 1) or rounds: no error bound, and an order that did not settle still has its functions.\n",
     run,
 };
 
@@ -39,9 +46,9 @@ fn run(arguments: &Arguments) -> Result<String, Error> {
         return Err(Error::usage(format!("--angle is {angle}; expected degrees above 0, at most 180")));
     }
     let top = arguments.count("--top", usize::MAX)?;
-    let functions = try_polar_cap(degree, angle.to_radians())?;
+    let (functions, orders) = try_polar_cap_with(degree, angle.to_radians())?;
     let first = |count: usize| &functions[..count.min(functions.len())];
-    let mut text = table(&functions, first(top.unwrap_or(SHOWN)), degree, angle);
+    let mut text = table(&functions, first(top.unwrap_or(SHOWN)), degree, angle) + &endings(&orders) + "\n";
     if let Some(path) = arguments.path("--out") {
         let listed = first(top.unwrap_or(usize::MAX));
         write_whole(path, csv(listed, degree).as_bytes())?;
@@ -63,6 +70,32 @@ fn table(all: &[Slepian], shown: &[Slepian], degree: usize, angle: f64) -> Strin
         let _ = writeln!(text, "{rank:>6} {:>6}  {}", function.m, share(function.concentration));
     }
     text
+}
+
+/// How the solver ended for the orders from 0 to the degree, in one line.
+fn endings(orders: &[Convergence]) -> String {
+    // Order m has a matrix of `orders.len() - m` rows: those of more than 32 stand in front.
+    let long = orders.len().saturating_sub(SWEPT_ROWS);
+    let open = orders.iter().enumerate().filter(|(_, end)| !end.settled);
+    let open: Vec<String> = open.map(|(m, end)| format!("{m} ({})", steps(end.count, if m < long { "round" } else { "sweep" }))).collect();
+    if open.is_empty() {
+        let (long, short) = orders.split_at(long);
+        let most: Vec<String> = [most(short, "sweep"), most(long, "round")].into_iter().flatten().collect();
+        let all = if orders.len() == 1 { "the one order".to_string() } else { format!("all {} orders", orders.len()) };
+        return format!("{all} settled (at most {})", most.join(", "));
+    }
+    let (named, more) = open.split_at(open.len().min(NAMED));
+    let more = if more.is_empty() { String::new() } else { format!(" and {} more", more.len()) };
+    format!("orders that did not settle: {}{more}", named.join(", "))
+}
+
+/// The largest count of some orders, if there are any.
+fn most(orders: &[Convergence], step: &str) -> Option<String> {
+    orders.iter().map(|end| end.count).max().map(|count| steps(count, step))
+}
+
+fn steps(count: usize, step: &str) -> String {
+    format!("{count} {step}{}", if count == 1 { "" } else { "s" })
 }
 
 /// A concentration with twelve digits or, where those would say 1, what it lacks of 1. Rounding may leave
@@ -93,7 +126,34 @@ fn csv(functions: &[Slepian], degree: usize) -> String {
 
 #[cfg(test)]
 mod tests {
-    use super::share;
+    use super::{Convergence, endings, share};
+
+    /// The line of orders with these counts; the orders in `open` did not settle.
+    fn line(counts: &[usize], open: &[usize]) -> String {
+        let end = |(m, &count): (usize, &usize)| Convergence { settled: !open.contains(&m), count };
+        endings(&counts.iter().enumerate().map(end).collect::<Vec<_>>())
+    }
+
+    #[test]
+    fn orders_that_settled_are_counted() {
+        assert_eq!(line(&[0], &[]), "the one order settled (at most 0 sweeps)");
+        assert_eq!(line(&[1, 0], &[]), "all 2 orders settled (at most 1 sweep)");
+        assert_eq!(line(&[7; 32], &[]), "all 32 orders settled (at most 7 sweeps)");
+        // The order 0 of 33 has 33 rows, and those after it at most 32.
+        assert_eq!(line(&[&[78][..], &[7; 32]].concat(), &[]), "all 33 orders settled (at most 7 sweeps, 78 rounds)");
+        assert_eq!(line(&[&[131; 29][..], &[9; 32]].concat(), &[]), "all 61 orders settled (at most 9 sweeps, 131 rounds)");
+    }
+
+    #[test]
+    fn orders_that_did_not_settle_are_named() {
+        assert_eq!(line(&[7, 6, 5, 100, 3], &[3]), "orders that did not settle: 3 (100 sweeps)");
+        let counts = [&[812; 41][..], &[100; 32]].concat();
+        assert_eq!(line(&counts, &[3, 40, 41]), "orders that did not settle: 3 (812 rounds), 40 (812 rounds), 41 (100 sweeps)");
+        let ten = (0..10).map(|m| format!("{m} (100 sweeps)")).collect::<Vec<_>>().join(", ");
+        let all: Vec<usize> = (0..22).collect();
+        assert_eq!(line(&[100; 22], &all[..10]), format!("orders that did not settle: {ten}"));
+        assert_eq!(line(&[100; 22], &all), format!("orders that did not settle: {ten} and 12 more"));
+    }
 
     #[test]
     fn what_rounds_to_one_says_what_it_lacks() {

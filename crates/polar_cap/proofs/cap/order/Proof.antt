@@ -34,9 +34,9 @@ concentrations-of-requires c κs =
     let r = p .1 .1 .1 .1 .1 .1 .1 in
     let o = order-room r (p .0) refl (p .1 .1 .1 .1 .1 .1 .0 .tables .size) (p .1 .1 .1 .0) (p .1 .1 .1 .1 .0) in
     let vs = c1 .vectors-of .ensures in
-    let long = vs .1 .1 .long in
+    let long = vs .1 .1 .0 .long in
     let top = r .top in
-    let s = stored-apart (a .lmax) (a .x0) (a .weights .now) (a .latitudes .now) (p .1 .1 .1 .1 .1 .1 .0) (vs .1 .1) (le-refl (a .total + a .total))
+    let s = stored-apart (a .lmax) (a .x0) (a .weights .now) (a .latitudes .now) (p .1 .1 .1 .1 .1 .1 .0) (vs .1 .1 .0) (le-refl (a .total + a .total))
     (o .before-stored) (divided (a .lmax) top) in (
       p .0,
       (
@@ -86,7 +86,7 @@ store-requires c κs =
     let vs = c1 .before .before .before .before .before .before .before .before .before .before .vectors-of .ensures in
     let cs = c .before .before .before .before .before .before .before .before .before .concentrations-of .ensures in
     let lv = vs .0 .long in
-    let lw = vs .1 .1 .long in
+    let lw = vs .1 .1 .0 .long in
     let lc = cs .0 .long in
     let lw2 = cs .1 .long in
     (o .few, (omega (arith, o .of-concentrations, lc), (omega (arith, o .of-vectors, lv), (o .apart, omega (arith, o .of-store, lw, lw2)))))
@@ -107,7 +107,7 @@ returns c =
     let conc = c1 .concentrations-of .last .1 .1 .1 .1 .1 .1 .1 .1 .1 .1 .1 .1 .1 .1 .0 in
     let stores = c .before .before .store .ensures in
     let both = apart-then (a .total + a .total) (a .total + a .total + (degrees (a .lmax) (a .m) * degrees (a .lmax) (a .m) + 4 * degrees (a .lmax)
-    (a .m))) (vs .1 .1) (cs .1) (le-refl _) (le-refl _) (le-refl _) (omega arith) in
+    (a .m))) (vs .1 .1 .0) (cs .1) (le-refl _) (le-refl _) (le-refl _) (omega arith) in
     let s = stored-apart (a .lmax) (a .x0) (a .weights .now) (a .latitudes .now) (p .1 .1 .1 .1 .1 .1 .0) both (le-refl (a .total + a .total))
     (o .before-stored) d in
     let one = filled (a .f) (from 0 conc nan) (degrees (a .lmax) (a .m)) w refl in
@@ -128,7 +128,7 @@ returns c =
           kept-from (tableSize (a .lmax)) (o .in-functions) (vs .1 .0),
           (
             kept-from (tableSize (a .lmax)) (o .in-functions) (filled-kept (cs .0)),
-            kept-from (vectorsSize (a .lmax)) (o .in-numbers) (filled-kept (vs .0)),
+            (kept-from (vectorsSize (a .lmax)) (o .in-numbers) (filled-kept (vs .0)), vs .1 .1 .1),
           ),
         ),
       ),

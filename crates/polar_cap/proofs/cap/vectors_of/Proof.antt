@@ -5,7 +5,7 @@ use Prim.Native.Nat.{_-_}
 use lib.ListN.{length}
 use lib.Seq.{length-take-le}
 use Rattle.matrix.specs.Layout.{filled-kept}
-use Rattle.polar_cap.specs.CapOrder.{grunbaum-made, vectors-made}
+use Rattle.polar_cap.specs.CapOrder.{grunbaum-made, vectors-made, convergence-made}
 use Rattle.polar_cap.specs.CapStorage.{apart-part}
 use borrow.Author.Needs.{needs}
 use Rattle.polar_cap.proofs.cap.vectors_of.Statement.{statement}
@@ -35,8 +35,11 @@ returns c =
       vectors-made (a .lmax) (a .m) (a .x0) (omega arith) made (c .before .before .before .before .before .before .eigen .ensures .1 .0),
       (
         filled-kept (c .before .before .before .before .before .before .eigen .ensures .0),
-        apart-part (a .at) (length (a .work .now) - a .at) (a .work .now) (c .before .before .before .before .before .before .eigen .ensures .1 .1)
-            (omega arith) refl,
+        (
+          apart-part (a .at) (length (a .work .now) - a .at) (a .work .now) (c .before .before .before .before .before .before .eigen .ensures .1 .1 .0)
+              (omega arith) refl,
+          convergence-made (a .lmax) (a .m) (a .x0) (omega arith) made (c .before .before .before .before .before .before .eigen .ensures .1 .1 .1),
+        ),
       ),
     )
 
