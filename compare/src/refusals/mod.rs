@@ -8,6 +8,7 @@ mod grow;
 pub mod models;
 pub mod points;
 pub mod regions;
+mod solvers;
 mod tensors;
 pub mod values;
 

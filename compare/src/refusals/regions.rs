@@ -1,7 +1,7 @@
 //! The calls on regions: cases, and what is told of their lists.
 
 use super::values::told;
-use super::{ANY, Call, Case, Input, Kind, Output, Work, distinct, title};
+use super::{ANY, Call, Case, Input, Kind, Output, Value, Work, distinct, title};
 use crate::constants::array;
 use crate::refusal::{SIZE, SPACE, pairs};
 
@@ -22,10 +22,12 @@ fn matrix(n: &[usize]) -> Vec<(Kind, u128)> {
     [lists, vec![(Work, 3 * pairs(n[0].min(1 << 20))), (Output, k.pow(4))]].concat()
 }
 
+/// The two numbers that tell how the solver ended are no list: their length stands in no column.
 fn region(n: &[usize]) -> Vec<(Kind, u128)> {
     let (t, (k, lists)) = (pairs(n[0].min(1 << 20)), nodes(n));
     let numbers = k * k * t;
-    [lists, vec![(Work, 3 * t + 4 * k.pow(4) + 5 * k * k), (Output, k * k), (Output, numbers), (Output, numbers)]].concat()
+    [lists, vec![(Work, 3 * t + 4 * k.pow(4) + 5 * k * k), (Output, k * k), (Output, numbers), (Output, numbers)], vec![(Value, 2)]]
+        .concat()
 }
 
 const CONCENTRATION_MATRIX: Call = Call {
@@ -50,12 +52,17 @@ fn cases(call: &Call) -> Vec<Case> {
             cases.push(case);
         }
     }
+    let numbers: Vec<usize> = (0..call.kinds().len()).filter(|&place| call.kinds()[place] == Value).collect();
+    for case in &mut cases {
+        numbers.iter().for_each(|&place| case.lengths[place] = call.base().lengths[place]);
+    }
     distinct(cases)
 }
 
 /// What is told of the lists of a call for some sizes, in a list of so many places.
 fn lengths(name: &str, call: &Call, sizes: [usize; 2], places: usize) -> String {
-    let lengths: Vec<usize> = (call.lists)(&sizes).iter().map(|&(_, length)| length.min(ANY as u128) as usize).collect();
+    let lists = (call.lists)(&sizes).into_iter().filter(|(kind, _)| *kind != Value);
+    let lengths: Vec<usize> = lists.map(|(_, length)| length.min(ANY as u128) as usize).collect();
     let large = sizes.iter().zip(LIMITS).any(|(size, limit)| *size > limit);
     let refusal = if large { SIZE } else { [0, SPACE][(places < lengths.len()) as usize] };
     let comment =

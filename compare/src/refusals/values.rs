@@ -12,7 +12,7 @@ use crate::refusal::{LOVE, MAX_DEGREE, PLACE, SIZE, pairs};
 /// What stands in lists and in the number before a call.
 pub(super) const MARK: f64 = 1234.5;
 const MARK_WORD: u64 = 0x5a5a_1234_5a5a_9876;
-const MARK_LENGTH: usize = 1234;
+pub(super) const MARK_LENGTH: usize = 1234;
 
 /// Love numbers of degree 0 to 3.
 const LOVES: [f64; 4] = [0.125, 0.25, 0.5, 0.75];
@@ -138,5 +138,5 @@ pub fn replay() -> String {
     text += &array("with a record of another kind at byte 20", "READ_KIND", &reading(&kind));
     text += &bytes("with a byte too many", "LONG", &long);
     text += &array("what is read of that", "READ_LONG", &reading(&long));
-    text + &lengths(&whole, &dated) + &super::tensors::text() + &super::grow::text()
+    text + &lengths(&whole, &dated) + &super::tensors::text() + &super::grow::text() + &super::solvers::text()
 }

@@ -61,7 +61,7 @@ pub fn told(notes: &[(bool, usize)]) -> Vec<f64> {
 }
 
 /// The lengths of weights, latitudes, working list, orders, concentrations, vectors, and of how the solver ended.
-fn stated(lmax: usize) -> [u128; 7] {
+pub fn stated(lmax: usize) -> [u128; 7] {
     let (order, (functions, numbers)) = (lmax as u128 + 1, lengths(lmax));
     [order, 2 * order, work_size(lmax), functions, functions, numbers, 2 * order]
 }

@@ -1,7 +1,7 @@
 //! The crates `slepian`, `polar_cap`, `regions` and `region` against the oracle's slepian.rs.
 
 pub mod bench;
-mod caps;
+pub mod caps;
 pub mod region_replay;
 mod regions;
 pub mod replay;

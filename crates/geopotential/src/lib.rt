@@ -5,13 +5,13 @@
 // is its number; a single number that is answered goes through a pointer at the end and is left alone on a refusal; the result is the
 // refusal's number, 0 where the call is done. Calls that can't refuse return their number.
 pub mod analyses;
-mod caps;
+pub mod caps;
 pub mod fields;
 pub mod files;
 pub mod free_regions;
 pub mod functionals;
 pub mod lists;
-mod matrices;
+pub mod matrices;
 pub mod models;
 mod numbers;
 pub mod points;

@@ -112,11 +112,12 @@ pub fn touched_bytes(list: &[u8; 64]) -> u64
     100 * count + end as u64
 }
 
-// What was seen of up to three outputs, four decimal digits for each, and of what lies behind a working list's front.
-pub fn joined(first: u64, second: u64, third: u64, behind: u64) -> u64
-    requires { ⌜ (first ≤ 6464) × (second ≤ 6464) × (third ≤ 6464) × (behind ≤ 6464) ⌝ }
+// What was seen of up to three outputs, four decimal digits for each, and in the digits above them of a fourth or of what lies behind a working list's
+// front, which is due nothing: their sum.
+pub fn joined(first: u64, second: u64, third: u64, others: u64) -> u64
+    requires { ⌜ (first ≤ 6464) × (second ≤ 6464) × (third ≤ 6464) × (others ≤ 12928) ⌝ }
 {
-    first + 10000 * second + 100000000 * third + 1000000000000 * behind
+    first + 10000 * second + 100000000 * third + 1000000000000 * others
 }
 
 // 0, or the number of the refusal.

@@ -163,7 +163,7 @@ fn show_averages(
     show_words(b"basin_average ", &six, words, 0);
 }
 
-// A cap to degree L; the answers are orders, concentrations, vectors.
+// A cap to degree L; the answers are orders, concentrations, vectors, and apart from them how the solver ended for each order.
 fn show_cap(
     l: usize,
     cosine: u64,
@@ -173,9 +173,12 @@ fn show_cap(
     orders: &mut [f64],
     concentrations: &mut [f64],
     vectors: &mut [f64],
+    settled: &mut [f64],
     words: &[u64],
+    ended: &[u64],
 )
-    requires { ⌜ length (now orders) + length (now concentrations) + length (now vectors) ≤ length (now words) ⌝ }
+    requires { ⌜ length (now orders) + length (now concentrations) + length (now vectors) ≤ length (now words) ⌝
+        ∗ ⌜ length (now settled) ≤ length (now ended) ⌝ }
 {
     let k = orders.len();
     let at = k + concentrations.len();
@@ -189,11 +192,13 @@ fn show_cap(
         orders,
         concentrations,
         vectors,
+        settled,
     ) {
         Answer::Done => {
             show(b"polar_cap orders ", orders, words, 0);
             show(b"polar_cap concentrations ", concentrations, words, k);
             show(b"polar_cap vectors ", vectors, words, at);
+            show(b"polar_cap settled and counts ", settled, ended, 0);
         }
         Answer::Refused(_) => {
             io::write_all(1, b"polar_cap refused\n");
@@ -211,6 +216,7 @@ fn show_cap_0() {
     let mut orders = [0.0; 1];
     let mut concentrations = [0.0; 1];
     let mut vectors = [0.0; 1];
+    let mut settled = [0.0; 2];
     show_cap(
         0,
         averages::CAP_0_COSINE[0],
@@ -220,7 +226,9 @@ fn show_cap_0() {
         &mut orders,
         &mut concentrations,
         &mut vectors,
+        &mut settled,
         &averages::CAP_0,
+        &averages::CAP_0_SETTLED,
     );
 }
 
@@ -234,6 +242,7 @@ fn show_cap_1() {
     let mut orders = [0.0; 3];
     let mut concentrations = [0.0; 3];
     let mut vectors = [0.0; 5];
+    let mut settled = [0.0; 4];
     show_cap(
         1,
         averages::CAP_1_COSINE[0],
@@ -243,7 +252,9 @@ fn show_cap_1() {
         &mut orders,
         &mut concentrations,
         &mut vectors,
+        &mut settled,
         &averages::CAP_1,
+        &averages::CAP_1_SETTLED,
     );
 }
 
@@ -257,6 +268,7 @@ fn show_cap_2() {
     let mut orders = [0.0; 6];
     let mut concentrations = [0.0; 6];
     let mut vectors = [0.0; 14];
+    let mut settled = [0.0; 6];
     show_cap(
         2,
         averages::CAP_2_COSINE[0],
@@ -266,7 +278,9 @@ fn show_cap_2() {
         &mut orders,
         &mut concentrations,
         &mut vectors,
+        &mut settled,
         &averages::CAP_2,
+        &averages::CAP_2_SETTLED,
     );
 }
 
@@ -280,6 +294,7 @@ fn show_cap_6() {
     let mut orders = [0.0; 28];
     let mut concentrations = [0.0; 28];
     let mut vectors = [0.0; 140];
+    let mut settled = [0.0; 14];
     show_cap(
         6,
         averages::CAP_6_COSINE[0],
@@ -289,7 +304,9 @@ fn show_cap_6() {
         &mut orders,
         &mut concentrations,
         &mut vectors,
+        &mut settled,
         &averages::CAP_6,
+        &averages::CAP_6_SETTLED,
     );
 }
 
@@ -304,6 +321,7 @@ fn show_cap_18() {
     let mut orders = [0.0; 190];
     let mut concentrations = [0.0; 190];
     let mut vectors = [0.0; 2470];
+    let mut settled = [0.0; 38];
     match polar_cap::polar_cap(
         18,
         cosine,
@@ -313,6 +331,7 @@ fn show_cap_18() {
         &mut orders,
         &mut concentrations,
         &mut vectors,
+        &mut settled,
     ) {
         Answer::Done => {
             show(b"polar_cap 18 orders ", &orders, &averages::CAP_18, 0);
@@ -321,6 +340,12 @@ fn show_cap_18() {
                 &concentrations,
                 &averages::CAP_18,
                 190,
+            );
+            show(
+                b"polar_cap 18 settled and counts ",
+                &settled,
+                &averages::CAP_18_SETTLED,
+                0,
             );
         }
         Answer::Refused(_) => {

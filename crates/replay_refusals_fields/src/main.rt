@@ -22,8 +22,10 @@ fn answer(
     x: &mut [f64],
     y: &mut [f64],
     z: &mut [f64],
+    told: &mut [f64],
 ) -> u64
-    requires { ⌜ (64 ≤ length (now list)) × (64 ≤ length (now w)) × (64 ≤ length (now x)) × (64 ≤ length (now y)) × (64 ≤ length (now z)) ⌝ }
+    requires { ⌜ (64 ≤ length (now list)) × (64 ≤ length (now w)) × (64 ≤ length (now x)) × (64 ≤ length (now y)) × (64 ≤ length (now z))
+        × (64 ≤ length (now told)) ⌝ }
 {
     match which {
         0 => fields::grid(case, list, w, x),
@@ -31,7 +33,7 @@ fn answer(
         2 => fields::model(case, list, w, x, y),
         3 => matrices::symmetric_eigen(case, list, w, x, y),
         4 => matrices::householder_ql(case, list, w, x, y),
-        _ => matrices::cap(case, list, w, x, y, z),
+        _ => matrices::cap(case, list, w, x, y, z, told),
     }
 }
 
@@ -42,11 +44,21 @@ fn show(which: usize, case: &[u64]) -> Seen {
     let mut x = [MARK; 64];
     let mut y = [MARK; 64];
     let mut z = [MARK; 64];
-    let number = answer(which, case, &list, &mut w, &mut x, &mut y, &mut z);
-    let behind = touched(&w, size(case, 11));
+    let mut told = [MARK; 64];
+    let number = answer(
+        which,
+        case,
+        &list,
+        &mut w,
+        &mut x,
+        &mut y,
+        &mut z,
+        &mut told,
+    );
+    let others = touched(&w, size(case, 11)) + touched(&told, 0);
     Seen {
         number,
-        touched: joined(touched(&x, 0), touched(&y, 0), touched(&z, 0), behind),
+        touched: joined(touched(&x, 0), touched(&y, 0), touched(&z, 0), others),
     }
 }
 

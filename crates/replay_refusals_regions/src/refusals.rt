@@ -44,7 +44,7 @@ fn concentration_matrix(
     number as u64
 }
 
-// The same, and in the place of the matrix the concentrations, c and s.
+// The same, and in the place of the matrix the concentrations, c and s, and the two numbers of how the solver ended.
 fn region(
     case: &[u64],
     list: &[f64],
@@ -53,6 +53,8 @@ fn region(
     x: &mut [f64],
     y: &mut [f64],
     z: &mut [f64],
+    settled: &mut u32,
+    count: &mut usize,
 ) -> u64
     requires { ⌜ (64 ≤ length (now list)) × (64 ≤ length (now marks)) × (64 ≤ length (now w)) × (64 ≤ length (now x)) × (64 ≤ length (now y))
         × (64 ≤ length (now z)) ⌝ }
@@ -80,8 +82,27 @@ fn region(
         &mut x[..o],
         &mut y[..p],
         &mut z[..q],
+        settled,
+        count,
     );
     number as u64
+}
+
+// What a number that is lent for an answer holds before.
+const UNTOLD: usize = 77777;
+
+// Two numbers that were lent, as `touched` tells a list of two.
+fn told(settled: u32, count: usize) -> u64
+    ensures { λ r. ⌜ r ≤ 202 ⌝ }
+{
+    let mut sum = 0;
+    if settled != 77777 {
+        sum = 101;
+    }
+    if count != UNTOLD {
+        sum = sum + 101;
+    }
+    sum
 }
 
 // What is seen of a case, on lists that hold the mark where they are written; the last column says how much of the working list is left free.
@@ -92,15 +113,27 @@ fn see(functions: bool, case: &[u64]) -> Seen {
     let mut x = [MARK; 64];
     let mut y = [MARK; 64];
     let mut z = [MARK; 64];
+    let mut settled: u32 = 77777;
+    let mut count = UNTOLD;
     let number = if functions {
-        region(case, &list, &marks, &mut w, &mut x, &mut y, &mut z)
+        region(
+            case,
+            &list,
+            &marks,
+            &mut w,
+            &mut x,
+            &mut y,
+            &mut z,
+            &mut settled,
+            &mut count,
+        )
     } else {
         concentration_matrix(case, &list, &marks, &mut w, &mut x)
     };
-    let behind = touched(&w, size(case, 11));
+    let others = touched(&w, size(case, 11)) + told(settled, count);
     Seen {
         number,
-        touched: joined(touched(&x, 0), touched(&y, 0), touched(&z, 0), behind),
+        touched: joined(touched(&x, 0), touched(&y, 0), touched(&z, 0), others),
     }
 }
 

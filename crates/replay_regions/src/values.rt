@@ -55,6 +55,7 @@ fn show_functions(
     due: &[u64],
     cosines: &[u64],
     sines: &[u64],
+    ended: &[u64; 2],
 )
     requires { ⌜ length (now due) ≤ 36 ⌝ ∗ ⌜ length (now cosines) ≤ 756 ⌝ ∗ ⌜ length (now sines) ≤ 756 ⌝ }
 {
@@ -62,6 +63,8 @@ fn show_functions(
     let mut concentrations = [0.0; 36];
     let mut cs = [0.0; 756];
     let mut ss = [0.0; 756];
+    let mut settled = 7;
+    let mut count = 7;
     let number = geopotential_region(
         lmax,
         weights.len(),
@@ -74,8 +77,16 @@ fn show_functions(
         &mut concentrations,
         &mut cs,
         &mut ss,
+        &mut settled,
+        &mut count,
     );
     show_words(b"region, refusal ", &[number as u64], &[0], 0);
+    show_words(
+        b"region, settled and count ",
+        &[settled as u64, count as u64],
+        ended,
+        0,
+    );
     show_front(b"region, concentrations ", &concentrations, due);
     show_front(b"region, c ", &cs, cosines);
     show_front(b"region, s ", &ss, sines);
@@ -110,6 +121,7 @@ fn show_of_0() {
         &answers::OF_0_CONCENTRATIONS,
         &answers::OF_0_COSINES,
         &answers::OF_0_SINES,
+        &answers::OF_0_ENDED,
     );
 }
 
@@ -142,6 +154,7 @@ fn show_of_1() {
         &answers::OF_1_CONCENTRATIONS,
         &answers::OF_1_COSINES,
         &answers::OF_1_SINES,
+        &answers::OF_1_ENDED,
     );
 }
 
@@ -174,6 +187,7 @@ fn show_of_2() {
         &answers::OF_2_CONCENTRATIONS,
         &answers::OF_2_COSINES,
         &answers::OF_2_SINES,
+        &answers::OF_2_ENDED,
     );
 }
 
@@ -206,6 +220,7 @@ fn show_strange() {
         &answers::STRANGE_CONCENTRATIONS,
         &answers::STRANGE_COSINES,
         &answers::STRANGE_SINES,
+        &answers::STRANGE_ENDED,
     );
 }
 
@@ -238,6 +253,7 @@ fn show_large() {
         &answers::LARGE_CONCENTRATIONS,
         &answers::LARGE_COSINES,
         &answers::LARGE_SINES,
+        &answers::LARGE_ENDED,
     );
 }
 
@@ -270,6 +286,7 @@ fn show_none() {
         &answers::NONE_CONCENTRATIONS,
         &answers::NONE_COSINES,
         &answers::NONE_SINES,
+        &answers::NONE_ENDED,
     );
 }
 
@@ -302,6 +319,7 @@ fn show_of_5() {
         &answers::OF_5_CONCENTRATIONS,
         &answers::OF_5_COSINES,
         &answers::OF_5_SINES,
+        &answers::OF_5_ENDED,
     );
 }
 

@@ -16,5 +16,5 @@ returns-2 c = promised (told-past (small-enough (omega arith)) (cc) (c .before .
 pub polar-cap-spec : {M : Type 1} → statement M
 polar-cap-spec =
     tie.close
-    (tie.spec returns (λ c. search needs) (λ c κs. search needs) (λ c. search needs) (λ c. search needs) (λ c κs. search needs) (λ c. search needs)
-    returns-2)
+    (tie.spec returns (λ c. search needs) (λ c κs. search needs) (λ c. search needs) (λ c. search needs) (λ c. search needs) (λ c κs. search needs)
+    (λ c. search needs) returns-2)

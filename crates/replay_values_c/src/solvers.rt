@@ -1,0 +1,167 @@
+// Replays what the entries for the solvers and for caps hand on, how the solver ended among it, and what is told of the lists of a cap (answers.rt).
+use crate::answers;
+use crate::told::MARK_LENGTH;
+use geopotential::caps::geopotential_polar_cap;
+use geopotential::lists::geopotential_polar_cap_lengths;
+use geopotential::matrices::geopotential_householder_ql;
+use geopotential::matrices::geopotential_symmetric_eigen;
+use replay_cases::MARK;
+use replay_print::show;
+use replay_print::show_words;
+ghost use Prim.Native.Nat.{_+_, _≤_};
+ghost use lib.ListN.{length};
+
+// A matrix of two rows, with one place behind its values and its vectors.
+fn show_rotations(a: &[f64], due: &[u64; 11]) {
+    let mut work = [MARK; 12];
+    let mut values = [MARK; 3];
+    let mut vectors = [MARK; 5];
+    let mut settled: u32 = 1234;
+    let mut count = MARK_LENGTH;
+    let number = geopotential_symmetric_eigen(
+        2,
+        a,
+        &mut work,
+        &mut values,
+        &mut vectors,
+        &mut settled,
+        &mut count,
+    );
+    show_words(
+        b"symmetric_eigen, refusal, settled, count ",
+        &[number as u64, settled as u64, count as u64],
+        due,
+        0,
+    );
+    show(b"symmetric_eigen, values ", &values, due, 3);
+    show(b"symmetric_eigen, vectors ", &vectors, due, 6);
+}
+
+fn show_reflections(a: &[f64], due: &[u64; 11]) {
+    let mut work = [MARK; 12];
+    let mut values = [MARK; 3];
+    let mut vectors = [MARK; 5];
+    let mut settled: u32 = 1234;
+    let mut count = MARK_LENGTH;
+    let number = geopotential_householder_ql(
+        2,
+        a,
+        &mut work,
+        &mut values,
+        &mut vectors,
+        &mut settled,
+        &mut count,
+    );
+    show_words(
+        b"householder_ql, refusal, settled, count ",
+        &[number as u64, settled as u64, count as u64],
+        due,
+        0,
+    );
+    show(b"householder_ql, values ", &values, due, 3);
+    show(b"householder_ql, vectors ", &vectors, due, 6);
+}
+
+// A matrix whose squares overflow, one that the rotations don't settle, an ordinary one, and three numbers.
+fn show_solvers() {
+    let large = [1.0, 1e200, 1e200, 1.0];
+    let upper = [0.0, 1.0, 0.0, 0.0];
+    let ordinary = [2.0, 1.0, 1.0, 2.0];
+    let three = [2.0, 1.0, 1.0];
+    show_rotations(&large, &answers::SYMMETRIC_EIGEN_LARGE);
+    show_rotations(&upper, &answers::SYMMETRIC_EIGEN_UPPER);
+    show_rotations(&ordinary, &answers::SYMMETRIC_EIGEN_ORDINARY);
+    show_rotations(&three, &answers::SYMMETRIC_EIGEN_REFUSED);
+    show_reflections(&large, &answers::HOUSEHOLDER_QL_LARGE);
+    show_reflections(&upper, &answers::HOUSEHOLDER_QL_UPPER);
+    show_reflections(&ordinary, &answers::HOUSEHOLDER_QL_ORDINARY);
+    show_reflections(&three, &answers::HOUSEHOLDER_QL_REFUSED);
+}
+
+// A cap of degree 1, with one place behind each output but the last, which is lent.
+fn show_cap(settled: &mut [f64], due: &[u64])
+    requires { ⌜ 15 + length (now settled) ≤ length (now due) ⌝ }
+{
+    let weights = [1.0, 0.5];
+    let latitudes = [0.5, 0.875, -0.25, 0.96875];
+    let mut work = [MARK; 46];
+    let mut orders = [MARK; 4];
+    let mut concentrations = [MARK; 4];
+    let mut vectors = [MARK; 6];
+    let number = geopotential_polar_cap(
+        1,
+        0.25,
+        &weights,
+        &latitudes,
+        &mut work,
+        &mut orders,
+        &mut concentrations,
+        &mut vectors,
+        settled,
+    );
+    show_words(b"polar_cap, refusal ", &[number as u64], due, 0);
+    show(b"polar_cap, orders ", &orders, due, 1);
+    show(b"polar_cap, concentrations ", &concentrations, due, 5);
+    show(b"polar_cap, vectors ", &vectors, due, 9);
+    show(b"polar_cap, settled and counts ", settled, due, 15);
+}
+
+fn show_caps() {
+    let mut settled = [MARK; 5];
+    show_cap(&mut settled, &answers::CAP);
+    let mut short = [MARK; 3];
+    show_cap(&mut short, &answers::CAP_REFUSED);
+}
+
+// What is told of its lists, with a place behind the lengths.
+fn show_lengths(name: &[u8], lmax: usize, due: &[u64; 9])
+    requires { ⌜ length (now name) ≤ 80 ⌝ }
+{
+    let mut l = [MARK_LENGTH; 8];
+    let number = geopotential_polar_cap_lengths(lmax, &mut l);
+    let told = [
+        number as u64,
+        l[0] as u64,
+        l[1] as u64,
+        l[2] as u64,
+        l[3] as u64,
+        l[4] as u64,
+        l[5] as u64,
+        l[6] as u64,
+        l[7] as u64,
+    ];
+    show_words(name, &told, due, 0);
+}
+
+// With one too few.
+fn show_lengths_short() {
+    let mut l = [MARK_LENGTH; 6];
+    let number = geopotential_polar_cap_lengths(2, &mut l);
+    let told = [
+        number as u64,
+        l[0] as u64,
+        l[1] as u64,
+        l[2] as u64,
+        l[3] as u64,
+        l[4] as u64,
+        l[5] as u64,
+    ];
+    show_words(
+        b"polar_cap_lengths, SPACE ",
+        &told,
+        &answers::CAP_LENGTHS_SHORT,
+        0,
+    );
+}
+
+pub fn show_ended() {
+    show_solvers();
+    show_caps();
+    show_lengths(b"polar_cap_lengths ", 2, &answers::CAP_LENGTHS);
+    show_lengths(
+        b"polar_cap_lengths, 181 ",
+        181,
+        &answers::CAP_LENGTHS_BEYOND,
+    );
+    show_lengths_short();
+}
