@@ -163,6 +163,17 @@ fn show_averages(
     show_words(b"basin_average ", &six, words, 0);
 }
 
+// The functions of a cap: orders, concentrations, vectors.
+fn show_ranked(orders: &[f64], concentrations: &[f64], vectors: &[f64], words: &[u64])
+    requires { ⌜ length (now orders) + length (now concentrations) + length (now vectors) ≤ length (now words) ⌝ }
+{
+    let k = orders.len();
+    let at = k + concentrations.len();
+    show(b"polar_cap orders ", orders, words, 0);
+    show(b"polar_cap concentrations ", concentrations, words, k);
+    show(b"polar_cap vectors ", vectors, words, at);
+}
+
 // A cap to degree L; the answers are orders, concentrations, vectors, and apart from them how the solver ended for each order.
 fn show_cap(
     l: usize,
@@ -180,8 +191,6 @@ fn show_cap(
     requires { ⌜ length (now orders) + length (now concentrations) + length (now vectors) ≤ length (now words) ⌝
         ∗ ⌜ length (now settled) ≤ length (now ended) ⌝ }
 {
-    let k = orders.len();
-    let at = k + concentrations.len();
     let x = number::number_of_bits(cosine);
     match polar_cap::polar_cap(
         l,
@@ -195,9 +204,7 @@ fn show_cap(
         settled,
     ) {
         Answer::Done => {
-            show(b"polar_cap orders ", orders, words, 0);
-            show(b"polar_cap concentrations ", concentrations, words, k);
-            show(b"polar_cap vectors ", vectors, words, at);
+            show_ranked(orders, concentrations, vectors, words);
             show(b"polar_cap settled and counts ", settled, ended, 0);
         }
         Answer::Refused(_) => {

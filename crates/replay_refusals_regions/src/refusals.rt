@@ -95,14 +95,16 @@ const UNTOLD: usize = 77777;
 fn told(settled: u32, count: usize) -> u64
     ensures { λ r. ⌜ r ≤ 202 ⌝ }
 {
-    let mut sum = 0;
     if settled != 77777 {
-        sum = 101;
+        if count != UNTOLD {
+            return 202;
+        }
+        return 101;
     }
     if count != UNTOLD {
-        sum = sum + 101;
+        return 101;
     }
-    sum
+    0
 }
 
 // What is seen of a case, on lists that hold the mark where they are written; the last column says how much of the working list is left free.

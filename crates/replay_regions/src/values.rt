@@ -44,6 +44,33 @@ fn show_matrix(
     show_front(b"concentration_matrix ", &matrix, due);
 }
 
+// What a call answered by its numbers: the refusal's, and how the solver ended.
+fn show_ended(number: u32, settled: u32, count: usize, due: &[u64; 2]) {
+    show_words(b"region, refusal ", &[number as u64], &[0], 0);
+    show_words(
+        b"region, settled and count ",
+        &[settled as u64, count as u64],
+        due,
+        0,
+    );
+}
+
+// The fronts of its lists.
+fn show_lists(
+    concentrations: &[f64; 36],
+    cs: &[f64; 756],
+    ss: &[f64; 756],
+    due: &[u64],
+    cosines: &[u64],
+    sines: &[u64],
+)
+    requires { ⌜ length (now due) ≤ 36 ⌝ ∗ ⌜ length (now cosines) ≤ 756 ⌝ ∗ ⌜ length (now sines) ≤ 756 ⌝ }
+{
+    show_front(b"region, concentrations ", concentrations, due);
+    show_front(b"region, c ", cs, cosines);
+    show_front(b"region, s ", ss, sines);
+}
+
 // Its functions.
 fn show_functions(
     lmax: usize,
@@ -80,16 +107,8 @@ fn show_functions(
         &mut settled,
         &mut count,
     );
-    show_words(b"region, refusal ", &[number as u64], &[0], 0);
-    show_words(
-        b"region, settled and count ",
-        &[settled as u64, count as u64],
-        ended,
-        0,
-    );
-    show_front(b"region, concentrations ", &concentrations, due);
-    show_front(b"region, c ", &cs, cosines);
-    show_front(b"region, s ", &ss, sines);
+    show_ended(number, settled, count, ended);
+    show_lists(&concentrations, &cs, &ss, due, cosines, sines);
 }
 
 // A region of degree 0, of three nodes, one of them skipped.
@@ -338,6 +357,8 @@ fn refusal_of_1(
     replay::load(&answers::OF_1_LATITUDES, 0, &mut latitudes);
     replay::load(&answers::OF_1_S, 0, &mut s);
     replay::load(&answers::OF_1_C, 0, &mut c);
+    let mut settled = 7;
+    let mut count = 7;
     let number = geopotential_region(
         1,
         3,
@@ -350,6 +371,8 @@ fn refusal_of_1(
         concentrations,
         cs,
         ss,
+        &mut settled,
+        &mut count,
     );
     number as u64
 }

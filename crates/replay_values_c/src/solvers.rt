@@ -78,6 +78,15 @@ fn show_solvers() {
     show_reflections(&three, &answers::HOUSEHOLDER_QL_REFUSED);
 }
 
+// The functions of a cap behind the refusal's number.
+fn show_ranked(orders: &[f64; 4], concentrations: &[f64; 4], vectors: &[f64; 6], due: &[u64])
+    requires { ⌜ 15 ≤ length (now due) ⌝ }
+{
+    show(b"polar_cap, orders ", orders, due, 1);
+    show(b"polar_cap, concentrations ", concentrations, due, 5);
+    show(b"polar_cap, vectors ", vectors, due, 9);
+}
+
 // A cap of degree 1, with one place behind each output but the last, which is lent.
 fn show_cap(settled: &mut [f64], due: &[u64])
     requires { ⌜ 15 + length (now settled) ≤ length (now due) ⌝ }
@@ -100,9 +109,7 @@ fn show_cap(settled: &mut [f64], due: &[u64])
         settled,
     );
     show_words(b"polar_cap, refusal ", &[number as u64], due, 0);
-    show(b"polar_cap, orders ", &orders, due, 1);
-    show(b"polar_cap, concentrations ", &concentrations, due, 5);
-    show(b"polar_cap, vectors ", &vectors, due, 9);
+    show_ranked(&orders, &concentrations, &vectors, due);
     show(b"polar_cap, settled and counts ", settled, due, 15);
 }
 
