@@ -40,7 +40,7 @@ usage: compare [--seed NUMBER] [--quick] [SUBJECT...]   same bits as the oracle,
        compare replay SUBJECT FILE                      write the oracle's answers as Rattle constants
        compare margins FILE [COUNT [SEED]]              write values and their sums' numbers, for margins.py
 subjects: number, functional, coefficients, model_file, legendre, synthesis, partials, second_partials, analysis, linalg, slepian, lengths;
-          for replay also refusals, refusals_files, refusals_fields, refusals_points, refusals_c, regions, refusals_regions, values_c";
+          for replay also refusals, refusals_files, refusals_fields, refusals_points, refusals_c, regions, refusals_regions, values_c, solvers_c";
 
 /// One crate of the library: what can be done with it here.
 struct Subject {
@@ -96,6 +96,7 @@ const SUBJECTS: &[Subject] = &[
     Subject { name: "regions", compare: |_| (), bench: None, replay: Some(slepian::region_replay::replay) },
     Subject { name: "refusals_regions", compare: |_| (), bench: None, replay: Some(refusals::regions::replay) },
     Subject { name: "values_c", compare: |_| (), bench: None, replay: Some(refusals::values::replay) },
+    Subject { name: "solvers_c", compare: |_| (), bench: None, replay: Some(refusals::solvers::replay) },
 ];
 
 fn subject(name: &str) -> Result<&'static Subject, String> {

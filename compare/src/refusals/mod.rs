@@ -8,7 +8,7 @@ mod grow;
 pub mod models;
 pub mod points;
 pub mod regions;
-mod solvers;
+pub mod solvers;
 mod tensors;
 pub mod values;
 

@@ -60,6 +60,10 @@ fn cap_text() -> String {
         + &array("in a list of 6", "CAP_LENGTHS_SHORT", &told_lengths(SPACE, &[], 6))
 }
 
-pub(super) fn text() -> String {
-    solver_text() + &cap_text()
+pub fn replay() -> String {
+    let mut text = String::from(
+        "// What the C entries of the solvers and of caps hand on, numbers as bit patterns, the refusal first; the mark where nothing is.\n",
+    );
+    text += "// Written by `compare/run replay solvers_c FILE` (see compare/README.md), never by hand.\n";
+    text + &solver_text() + &cap_text()
 }

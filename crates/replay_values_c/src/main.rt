@@ -1,7 +1,6 @@
 // Replays what some entries for C hand on (values.rt), what the two for model files tell of their lists (told.rt), and both of the entries for the second
-// derivatives (tensors.rt), of the one for tables that grow (tables.rt), and of those for the solvers and caps (solvers.rt), against answers.rt.
+// derivatives (tensors.rt) and of the one for tables that grow (tables.rt), against answers.rt.
 mod answers;
-mod solvers;
 mod tables;
 mod tensors;
 mod told;
@@ -13,5 +12,4 @@ fn main() {
     told::show_told();
     tensors::show_tensors();
     tables::show_tables();
-    solvers::show_ended();
 }

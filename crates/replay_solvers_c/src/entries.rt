@@ -1,6 +1,5 @@
 // Replays what the entries for the solvers and for caps hand on, how the solver ended among it, and what is told of the lists of a cap (answers.rt).
 use crate::answers;
-use crate::told::MARK_LENGTH;
 use geopotential::caps::geopotential_polar_cap;
 use geopotential::lists::geopotential_polar_cap_lengths;
 use geopotential::matrices::geopotential_householder_ql;
@@ -11,12 +10,17 @@ use replay_print::show_words;
 ghost use Prim.Native.Nat.{_+_, _≤_};
 ghost use lib.ListN.{length};
 
+// What stands before a call in the numbers and in the list of lengths that are lent.
+const MARK_NUMBER: u32 = 1234;
+
+const MARK_LENGTH: usize = 1234;
+
 // A matrix of two rows, with one place behind its values and its vectors.
 fn show_rotations(a: &[f64], due: &[u64; 11]) {
     let mut work = [MARK; 12];
     let mut values = [MARK; 3];
     let mut vectors = [MARK; 5];
-    let mut settled: u32 = 1234;
+    let mut settled = MARK_NUMBER;
     let mut count = MARK_LENGTH;
     let number = geopotential_symmetric_eigen(
         2,
@@ -41,7 +45,7 @@ fn show_reflections(a: &[f64], due: &[u64; 11]) {
     let mut work = [MARK; 12];
     let mut values = [MARK; 3];
     let mut vectors = [MARK; 5];
-    let mut settled: u32 = 1234;
+    let mut settled = MARK_NUMBER;
     let mut count = MARK_LENGTH;
     let number = geopotential_householder_ql(
         2,
