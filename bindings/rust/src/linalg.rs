@@ -24,7 +24,7 @@ pub struct Convergence {
     /// test within its hundred rounds.
     pub settled: bool,
     /// By rotations ([`symmetric_eigen`] with `n ≤ 32`): the sweeps done, at most 100. By QL iteration: the rounds of all `n`
-    /// numbers together, at most `100n`.
+    /// numbers that went past the stopping test, those that broke off on a zero among them, at most `100n`.
     pub count: usize,
 }
 

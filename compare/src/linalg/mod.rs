@@ -151,7 +151,7 @@ fn matrices(tally: &mut Tally, cases: &mut Cases, solver: Solver) {
 }
 
 /// So many times the smallest number above zero, each.
-fn tiny(cells: &[i8]) -> Vec<f64> {
+pub fn tiny(cells: &[i16]) -> Vec<f64> {
     cells.iter().map(|&cell| cell as f64 * 5e-324).collect()
 }
 
@@ -167,15 +167,23 @@ pub fn edges() -> Vec<(usize, Vec<f64>)> {
         (2, vec![0.0, 0.0, 1.0, 0.0]),
         (2, vec![1.0, 1e200, 1e200, 1.0]),
         (2, vec![2.0, 1.0, 1.0, 2.0]),
+        // The test passes before the hundredth sweep; it would after it; just, and just not, before the first.
+        (2, vec![60541859004416.0, 30.0, 0.0, 60541859004416.0]),
+        (2, vec![14551349198848.0, 16.0, 0.0, 14551349198848.0]),
+        (2, vec![1.0, f64::from_bits(0x3c70_4e05_8e66_7b90), f64::from_bits(0x3c70_4e05_8e66_7b90), 1.0]),
+        (2, vec![1.0, f64::from_bits(0x3c70_4e05_8e66_7b91), f64::from_bits(0x3c70_4e05_8e66_7b91), 1.0]),
         (2, vec![1.0, nan, nan, 1.0]),
         (2, vec![inf, 1.0, 1.0, -inf]),
         (2, vec![0.0, 5e-324, 5e-324, 0.0]),
         (3, vec![0.0; 9]),
         (3, vec![-0.0; 9]),
-        // Rounds that break off on a zero; a number that does not settle; two that do not.
+        // A round that breaks off on a zero; the first number does not settle; two do not; the second alone does not; one that
+        // would meet its test after the hundredth round.
         (3, tiny(&[6, -2, -4, -2, 5, -3, -4, -3, 6])),
         (3, tiny(&[4, -7, 6, -7, 3, 4, 6, 4, -7])),
         (4, tiny(&[-3, 5, -3, -1, 5, -4, 7, 6, -3, 7, -5, -1, -1, 6, -1, -2])),
+        (4, tiny(&[1, 6, 1, -7, 6, 5, 4, 3, 1, 4, 6, 2, -7, 3, 2, -6])),
+        (4, tiny(&[15, -265, 162, 475, -265, -576, 83, -741, 162, 83, -759, 43, 475, -741, 43, 1011])),
         (4, made(4, |i, j| if i.abs_diff(j) == 1 { 5e-324 } else { 0.0 })),
         (5, made(5, |i, j| if i.abs_diff(j) == 1 { 1e-300 } else { -0.0 })),
     ];

@@ -1,5 +1,6 @@
 //! The oracle's matrices and functions of small regions: of three nodes, one of them skipped, with ordinary numbers (degrees 0, 1 and 2)
-//! and with strange ones (degree 1, three regions), and of two nodes at degree 5, whose matrix the iteration solves.
+//! and with strange ones (degree 1, three regions), and of one and two nodes at degree 5, whose
+//! matrices the iteration solves.
 
 use oracle::slepian::{concentration_matrix, region};
 use oracle::standins::{Node, noted};
@@ -51,6 +52,11 @@ fn none() -> Region {
     Region { lmax: 1, nodes: vec![node] }
 }
 
+/// One node of a subnormal weight: the iteration does not settle.
+fn faint() -> Region {
+    Region { lmax: 5, nodes: vec![Node { weight: 1e-310, lat: (0.5, 0.875), mark: 1, s: vec![0.5; 11], c: vec![0.5; 11] }] }
+}
+
 fn list(comment: &str, name: &str, numbers: &[f64]) -> String {
     array(comment, name, &numbers.iter().map(|&x| number(x)).collect::<Vec<_>>())
 }
@@ -86,5 +92,6 @@ pub fn replay() -> String {
     text += &constants("STRANGE_", &strange(), 16, 12);
     text += &constants("LARGE_", &large(), 16, 12);
     text += &constants("NONE_", &none(), 16, 12);
+    text += &constants("FAINT_", &faint(), 36, 21);
     text + &constants("OF_5_", &Region { lmax: 5, nodes: vec![node(5, 0, 2), node(5, 1, 128)] }, 72, 42)
 }

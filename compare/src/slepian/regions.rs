@@ -162,30 +162,12 @@ fn call(tally: &mut Tally, asked: Asked, of: &Region, lmax: usize, nodes: usize,
             Asked::Matrix => {
                 geopotential_concentration_matrix(lmax, nodes, w.0, w.1, l.0, l.1, m.0, m.1, s.0, s.1, c.0, c.1, f.0, f.1, o[0].0, o[0].1)
             }
-            Asked::Functions => geopotential_region(
-                lmax,
-                nodes,
-                w.0,
-                w.1,
-                l.0,
-                l.1,
-                m.0,
-                m.1,
-                s.0,
-                s.1,
-                c.0,
-                c.1,
-                f.0,
-                f.1,
-                o[0].0,
-                o[0].1,
-                o[1].0,
-                o[1].1,
-                o[2].0,
-                o[2].1,
-                &mut ended.settled,
-                &mut ended.count,
-            ),
+            Asked::Functions => {
+                let (v, p, q, t, k) = (o[0], o[1], o[2], &mut ended.settled, &mut ended.count);
+                geopotential_region(
+                    lmax, nodes, w.0, w.1, l.0, l.1, m.0, m.1, s.0, s.1, c.0, c.1, f.0, f.1, v.0, v.1, p.0, p.1, q.0, q.1, t, k,
+                )
+            }
         }
     };
     let (answers, notes) = answered(due, || noted(|| answer(asked, of))).unwrap_or_else(|| (vec![vec![]; outputs.len()], vec![]));

@@ -1,7 +1,7 @@
 -- The entries for the solvers: what they answer and leave, by the checks of the calls themselves. Assumes nothing.
-use mathlib.Core.Path.{_≡_, refl, ap, sym, subst, _∙_}
+use mathlib.Core.Path.{_≡_, ap, sym, subst, _∙_}
 use Prim.Native.Nat.{ℕ, _≤_}
-use Rattle.refusal.specs.Numbers.{after, answerNumber, refusal-above-0}
+use Rattle.refusal.specs.Numbers.{after, refusal-above-0}
 use Rattle.refusal.specs.declared.Answer.{Answer}
 use Rattle.refusal.specs.declared.Answer.the-variants.{Done}
 use Rattle.refusal.specs.declared.Answer.the-variants.{Refused as NotDone}
@@ -29,6 +29,6 @@ count-is Done c old e = ap (λ (s : Solution). countAfter s old) e
 count-is (NotDone r) c old e = ap (λ (s : Solution). countAfter s old) e
 
 -- the limit of the count holds of what was handed on, where the number of the answer is 0
-pub count-within : (s : Solution) (limit old : ℕ) {x now : ℕ} → x ≡ solutionNumber s → now ≡ countAfter s old → countIn s ≤ limit → x ≡ 0 → now ≤ limit
-count-within (Solved c) limit old p q h z = subst (λ (k : ℕ). k ≤ limit) (sym q) h
-count-within (Refused e) limit old p q h z = absurd (refusal-above-0 e (sym p ∙ z))
+pub handed-within : (s : Solution) (limit old : ℕ) {x now : ℕ} → x ≡ solutionNumber s → now ≡ countAfter s old → countIn s ≤ limit → x ≡ 0 → now ≤ limit
+handed-within (Solved c) limit old p q h z = subst (λ (k : ℕ). k ≤ limit) (sym q) h
+handed-within (Refused e) limit old p q h z = absurd (refusal-above-0 e (sym p ∙ z))

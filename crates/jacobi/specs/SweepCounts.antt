@@ -5,9 +5,9 @@ use mathlib.Core.List.{List}
 use Prim.Native.Nat.{ℕ, _+_, _≤_, _<_}
 use native.Mathlib.Omega.{arith}
 use lib.Ieee.{Float}
-use Rattle.storage.specs.Iterate.{iterateUntil}
 use Rattle.storage.specs.Counted.{Told, Counts, told}
-use Rattle.jacobi.specs.Jacobi.{Matrices, State, state, isSmall, sweep, sweepUnlessSmall, settledIn, sweepsIn, sweeps, jacobi, jacobiSweeps, jacobiSettled}
+use Rattle.jacobi.specs.Jacobi.{Matrices, State, state, isSmall, sweepUnlessSmall, settledIn, sweepsIn, sweeps, jacobi}
+use Rattle.jacobi.specs.Jacobi.{jacobiSweeps, jacobiSettled}
 
 module _ (n : ℕ) (scale : Float) where
   raised-by : (m : Matrices) (k : ℕ) (t b : Bool) → isSmall n scale m ≡ b → t ≡ false → settledIn (sweepUnlessSmall n scale (state m k t)) ≡ true

@@ -134,7 +134,7 @@ analysisLengths N =
 unfoldable pub eigenLengths : ℕ → List ℕ
 eigenLengths n = (n * n) ∷ (n * n + 4 * n) ∷ n ∷ (n * n) ∷ []
 
--- weights, latitudes, work, orders, concentrations, vectors
+-- weights, latitudes, work, orders, concentrations, vectors, settled
 unfoldable pub capLengths : ℕ → List ℕ
 capLengths L = (L + 1) ∷ (L + 1 + (L + 1)) ∷ capWork L ∷ tableSize L ∷ tableSize L ∷ vectorsSize L ∷ ((L + 1) * 2) ∷ []
 

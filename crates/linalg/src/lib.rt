@@ -20,9 +20,9 @@ ghost use Rattle.linalg.specs.Solution.{settledNumber, outcome, solution
 // The most rows of a matrix.
 pub const MAX_ROWS: usize = 512;
 
-// How a solver ended. Jacobi rotations settle where their test passes before one of the hundred sweeps, and the count is of sweeps; the QL iteration
-// where each number meets its stopping test within its hundred rounds, and the count is of all rounds. That a solver settled says nothing of how near
-// the answer is.
+// How a solver ended. Jacobi rotations settle where their test passes before one of the hundred sweeps, and the count is of sweeps done; the QL
+// iteration where each number meets its stopping test within its hundred rounds, and the count is of all rounds that went past the test, those that
+// broke off on a zero among them. That a solver settled says nothing of how near the answer is.
 pub struct Convergence {
     pub settled: bool,
     pub count: usize,
@@ -148,8 +148,8 @@ pub fn symmetric_eigen(
     }
 }
 
-// The same by Householder reduction and QL iteration at every n, with a count of at most 100n (Golub & Van Loan, Matrix Computations, Algorithms 8.3.1 and 8.3.3; EISPACK's
-// tred2 and tql2).
+// The same by Householder reduction and QL iteration at every n, with a count of at most 100n (Golub & Van Loan, Matrix Computations, Algorithms 8.3.1
+// and 8.3.3; EISPACK's tred2 and tql2).
 pub fn householder_ql(
     n: usize,
     a: &[f64],

@@ -14,8 +14,8 @@ use Rattle.storage.specs.Rectangle.{byRows, by-row, by-rows-more}
 use Rattle.matrix.specs.Matrix.{cell, matrixOf, matrix-same, cell-within, length-matrix}
 use Rattle.matrix.specs.Layout.{flipped, plain, filled-tabulate, copied-plain}
 use Rattle.linalg.specs.declared.Convergence.{Convergence}
-use Rattle.linalg.specs.Eigen.{eigenVectors, eigenConvergence}
-use Rattle.linalg.specs.Limits.{eigen-few}
+use Rattle.linalg.specs.Eigen.{eigenVectors, eigenConvergence, eigenLimit}
+use Rattle.linalg.specs.Limits.{eigen-count-limit, eigen-few}
 use Rattle.linalg.specs.Solution.{settledNumber}
 use Rattle.linalg.specs.Sizes.{length-vectors}
 use Rattle.caps.specs.Caps.{degrees, concentrationCell, concentration, grunbaumCell, grunbaum, rayleigh}
@@ -79,7 +79,12 @@ module _ (L m : ℕ) (x₀ : Float) {k : ℕ} (hk : k ≡ degrees L m) where
       quotients-made q = filled-same (concentrationIn L x₀ weights lats m) q (λ col b. cc (plain-vectors, plain-matrix, hk))
 
 -- ---- how the solver of an order ended, told in two numbers
--- its count is small: an order has at most 181 degrees
+-- the limit of its count, by the degrees of the order
+pub convergence-limit : (L m : ℕ) (x₀ : Float) → convergenceOf L x₀ m .count ≤ eigenLimit (degrees L m)
+unfolding convergenceOf
+convergence-limit L m x₀ = eigen-count-limit (degrees L m) (grunbaum L m x₀)
+
+-- in numbers, far below those that a double has not exactly
 pub convergence-few : (L m : ℕ) (x₀ : Float) → L ≤ 180 → convergenceOf L x₀ m .count ≤ 51200
 unfolding convergenceOf
 convergence-few L m x₀ h = eigen-few (degrees L m) (grunbaum L m x₀) (omega arith)

@@ -1,7 +1,7 @@
 -- What the number of rounds and the flag of the definition tell of each other. Assumes nothing.
 use mathlib.Core.Path.{_≡_, refl, sym, subst, _∙_}
-use mathlib.Core.Bool.{Bool, true, false, _&&_, true≢false}
-use Prim.Native.Nat.{ℕ, zero, suc, _+_, _*_, _≤_, _<_}
+use mathlib.Core.Bool.{Bool, true, false, true≢false}
+use Prim.Native.Nat.{ℕ, zero, suc, _+_, _*_, _≤_}
 use native.Mathlib.Numerals.{add-one}
 use native.Mathlib.Omega.{arith}
 use lib.Dec.{eqb}
@@ -37,8 +37,8 @@ module _ (n l : ℕ) where
   unfolding rounds settledIn roundsIn
   counted t k = told settledIn roundsIn (roundUnlessAlone n l) counts 100 (state t k false) refl
 
--- after the first l: the rounds, and whether each of them met its stopping test
-pub record Counted (l : ℕ) (s : State) : Type 0 where
+-- after the first l numbers: what their rounds and whether each met its stopping test tell of each other
+pub record CountedBelow (l : ℕ) (s : State) : Type 0 where
   pub most : roundsIn s ≤ 100 * l
   pub early : settledIn s ≡ true → roundsIn s ≤ 99 * l
   pub full : settledIn s ≡ false → 100 ≤ roundsIn s
@@ -46,7 +46,7 @@ pub record Counted (l : ℕ) (s : State) : Type 0 where
 -- one l more
 module _ (n l : ℕ) where
   more-by : (k : ℕ) (before : Bool) (s : State) → Told settledIn roundsIn k 100 s → (b : Bool) → settledIn s ≡ b
-      → k ≤ 100 * l → (before ≡ true → k ≤ 99 * l) → (before ≡ false → 100 ≤ k) → Counted (l + 1) (andBefore before s)
+      → k ≤ 100 * l → (before ≡ true → k ≤ 99 * l) → (before ≡ false → 100 ≤ k) → CountedBelow (l + 1) (andBefore before s)
   unfolding settledIn roundsIn
   more-by k true (state t k′ met) r true g a e f = record {
     most = omega (arith, a, r .early g);
@@ -69,20 +69,20 @@ module _ (n l : ℕ) where
     full = λ h. omega (arith, r .full g);
   }
 
-  counted-more : (s : State) → Counted l s → Counted (l + 1) (roundsAt n l s)
+  counted-more : (s : State) → CountedBelow l s → CountedBelow (l + 1) (roundsAt n l s)
   unfolding roundsAt settledIn roundsIn
   counted-more (state t k before) c = more-by k before (rounds n l t k) (counted n l t k) (settledIn (rounds n l t k)) refl (c .most) (c .early) (c .full)
 
 module _ (n : ℕ) (t : Tridiagonal) where
-  counted-below : (l : ℕ) → Counted l (iterate (roundsAt n) 0 l (state t 0 true))
+  counted-below : (l : ℕ) → CountedBelow l (iterate (roundsAt n) 0 l (state t 0 true))
   unfolding settledIn roundsIn
   counted-below zero =
-      subst (Counted 0) (sym (iterate-done (roundsAt n) 0 0 (state t 0 true) (omega arith)))
+      subst (CountedBelow 0) (sym (iterate-done (roundsAt n) 0 0 (state t 0 true) (omega arith)))
       (record { most = omega arith; early = λ h. omega arith; full = λ h. absurd (true≢false h) })
   counted-below (suc l) =
-      subst (λ (x : ℕ). Counted x (iterate (roundsAt n) 0 x (state t 0 true))) (add-one l)
-      (subst (Counted (l + 1)) (iterate-last (roundsAt n) 0 l (state t 0 true) (omega arith)) (counted-more n l _ (counted-below l)))
+      subst (λ (x : ℕ). CountedBelow x (iterate (roundsAt n) 0 x (state t 0 true))) (add-one l)
+      (subst (CountedBelow (l + 1)) (iterate-last (roundsAt n) 0 l (state t 0 true) (omega arith)) (counted-more n l _ (counted-below l)))
 
-  pub counted-rounds : Counted n (iteration n t)
+  pub counted-rounds : CountedBelow n (iteration n t)
   unfolding iteration
   counted-rounds = counted-below n

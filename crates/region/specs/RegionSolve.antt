@@ -15,7 +15,7 @@ use Rattle.matrix.specs.Layout.{flipped, plain, transposed, Kept, kept-then, ke
 use Rattle.householder_within.specs.Within.{Mirrored, back, back-behind, back-long, back-kept, lent-whole, lent-long}
 use Rattle.linalg.specs.declared.Convergence.{Convergence}
 use Rattle.linalg.specs.Eigen.{eigenValues, eigenVectors, eigenConvergence, eigenLimit}
-use Rattle.linalg.specs.Limits.{eigen-limit}
+use Rattle.linalg.specs.Limits.{eigen-count-limit}
 use Rattle.linalg.specs.Within.{VectorsBehind}
 use Rattle.region_nodes.specs.Basis.{basisSize}
 use Rattle.region_nodes.specs.Regions.{regionCell, concentrationMatrix}
@@ -123,6 +123,6 @@ pub region-convergence : (L : ℕ) (D : List Float) {n : ℕ} {x : Convergence} 
 unfolding regionConvergence
 region-convergence L D en e = e ∙ ap (λ (k : ℕ). eigenConvergence k D) en
 
-pub region-limit : (L : ℕ) (D : List Float) → regionConvergence L D .count ≤ eigenLimit (basisSize L)
+pub region-count-limit : (L : ℕ) (D : List Float) → regionConvergence L D .count ≤ eigenLimit (basisSize L)
 unfolding regionConvergence
-region-limit L D = eigen-limit (basisSize L) D
+region-count-limit L D = eigen-count-limit (basisSize L) D

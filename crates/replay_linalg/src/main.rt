@@ -145,7 +145,7 @@ fn of_1(j: usize)
 
 // Matrix j of 2 rows.
 fn of_2(j: usize)
-    requires { ⌜ j < 7 ⌝ }
+    requires { ⌜ j < 11 ⌝ }
 {
     let mut a = [0.0; 4];
     loaded(
@@ -177,7 +177,7 @@ fn of_3(j: usize)
 
 // Matrix j of 4 rows.
 fn of_4(j: usize)
-    requires { ⌜ j < 2 ⌝ }
+    requires { ⌜ j < 4 ⌝ }
 {
     let mut a = [0.0; 16];
     loaded(
@@ -266,6 +266,10 @@ fn all_of_2() {
     of_2(4);
     of_2(5);
     of_2(6);
+    of_2(7);
+    of_2(8);
+    of_2(9);
+    of_2(10);
 }
 
 fn all_listed() {
@@ -280,6 +284,8 @@ fn all_listed() {
     of_3(3);
     of_4(0);
     of_4(1);
+    of_4(2);
+    of_4(3);
     of_5();
 }
 

@@ -88,14 +88,16 @@ fn region(
     number as u64
 }
 
-// What a number that is lent for an answer holds before.
+// What the two numbers that are lent for the answer hold before.
+const UNSETTLED: u32 = 77777;
+
 const UNTOLD: usize = 77777;
 
 // Two numbers that were lent, as `touched` tells a list of two.
 fn told(settled: u32, count: usize) -> u64
     ensures { λ r. ⌜ r ≤ 202 ⌝ }
 {
-    if settled != 77777 {
+    if settled != UNSETTLED {
         if count != UNTOLD {
             return 202;
         }
@@ -115,7 +117,7 @@ fn see(functions: bool, case: &[u64]) -> Seen {
     let mut x = [MARK; 64];
     let mut y = [MARK; 64];
     let mut z = [MARK; 64];
-    let mut settled: u32 = 77777;
+    let mut settled = UNSETTLED;
     let mut count = UNTOLD;
     let number = if functions {
         region(

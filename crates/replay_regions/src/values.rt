@@ -342,7 +342,40 @@ fn show_of_5() {
     );
 }
 
-// Degree 1, with these lists to be written: the refusal's number.
+// Degree 5, of one node of a subnormal weight: the iteration does not settle.
+fn show_faint() {
+    let mut weights = [0.0; 1];
+    let mut latitudes = [0.0; 2];
+    let mut s = [0.0; 11];
+    let mut c = [0.0; 11];
+    replay::load(&answers::FAINT_WEIGHTS, 0, &mut weights);
+    replay::load(&answers::FAINT_LATITUDES, 0, &mut latitudes);
+    replay::load(&answers::FAINT_S, 0, &mut s);
+    replay::load(&answers::FAINT_C, 0, &mut c);
+    show_matrix(
+        5,
+        &weights,
+        &latitudes,
+        &answers::FAINT_MARKS,
+        &s,
+        &c,
+        &answers::FAINT_MATRIX,
+    );
+    show_functions(
+        5,
+        &weights,
+        &latitudes,
+        &answers::FAINT_MARKS,
+        &s,
+        &c,
+        &answers::FAINT_CONCENTRATIONS,
+        &answers::FAINT_COSINES,
+        &answers::FAINT_SINES,
+        &answers::FAINT_ENDED,
+    );
+}
+
+// Degree 1, with these lists to be written: the refusal's number. That it leaves the two numbers of the solver alone is replayed with the refusals.
 fn refusal_of_1(
     work: &mut [f64],
     concentrations: &mut [f64],
@@ -409,6 +442,7 @@ pub fn show_values() {
     show_strange();
     show_large();
     show_none();
+    show_faint();
     show_of_5();
     show_short();
 }

@@ -15,15 +15,15 @@ const MARK_NUMBER: u32 = 1234;
 
 const MARK_LENGTH: usize = 1234;
 
-// A matrix of two rows, with one place behind its values and its vectors.
-fn show_rotations(a: &[f64], due: &[u64; 11]) {
-    let mut work = [MARK; 12];
-    let mut values = [MARK; 3];
-    let mut vectors = [MARK; 5];
+// A matrix of up to three rows, with places behind its values and its vectors.
+fn show_rotations(n: usize, a: &[f64], due: &[u64; 17]) {
+    let mut work = [MARK; 21];
+    let mut values = [MARK; 4];
+    let mut vectors = [MARK; 10];
     let mut settled = MARK_NUMBER;
     let mut count = MARK_LENGTH;
     let number = geopotential_symmetric_eigen(
-        2,
+        n,
         a,
         &mut work,
         &mut values,
@@ -38,17 +38,17 @@ fn show_rotations(a: &[f64], due: &[u64; 11]) {
         0,
     );
     show(b"symmetric_eigen, values ", &values, due, 3);
-    show(b"symmetric_eigen, vectors ", &vectors, due, 6);
+    show(b"symmetric_eigen, vectors ", &vectors, due, 7);
 }
 
-fn show_reflections(a: &[f64], due: &[u64; 11]) {
-    let mut work = [MARK; 12];
-    let mut values = [MARK; 3];
-    let mut vectors = [MARK; 5];
+fn show_reflections(n: usize, a: &[f64], due: &[u64; 17]) {
+    let mut work = [MARK; 21];
+    let mut values = [MARK; 4];
+    let mut vectors = [MARK; 10];
     let mut settled = MARK_NUMBER;
     let mut count = MARK_LENGTH;
     let number = geopotential_householder_ql(
-        2,
+        n,
         a,
         &mut work,
         &mut values,
@@ -63,23 +63,35 @@ fn show_reflections(a: &[f64], due: &[u64; 11]) {
         0,
     );
     show(b"householder_ql, values ", &values, due, 3);
-    show(b"householder_ql, vectors ", &vectors, due, 6);
+    show(b"householder_ql, vectors ", &vectors, due, 7);
 }
 
-// A matrix whose squares overflow, one that the rotations don't settle, an ordinary one, and three numbers.
+// A matrix whose squares overflow, one that the rotations don't settle, an ordinary one, one that the iteration does not settle, and a number too few.
+fn show_all_rotations(tiny: &[f64; 9]) {
+    show_rotations(
+        2,
+        &[1.0, 1e200, 1e200, 1.0],
+        &answers::SYMMETRIC_EIGEN_LARGE,
+    );
+    show_rotations(2, &[0.0, 1.0, 0.0, 0.0], &answers::SYMMETRIC_EIGEN_UPPER);
+    show_rotations(2, &[2.0, 1.0, 1.0, 2.0], &answers::SYMMETRIC_EIGEN_ORDINARY);
+    show_rotations(3, tiny, &answers::SYMMETRIC_EIGEN_TINY);
+    show_rotations(2, &[2.0, 1.0, 1.0], &answers::SYMMETRIC_EIGEN_REFUSED);
+}
+
+fn show_all_reflections(tiny: &[f64; 9]) {
+    show_reflections(2, &[1.0, 1e200, 1e200, 1.0], &answers::HOUSEHOLDER_QL_LARGE);
+    show_reflections(2, &[0.0, 1.0, 0.0, 0.0], &answers::HOUSEHOLDER_QL_UPPER);
+    show_reflections(2, &[2.0, 1.0, 1.0, 2.0], &answers::HOUSEHOLDER_QL_ORDINARY);
+    show_reflections(3, tiny, &answers::HOUSEHOLDER_QL_TINY);
+    show_reflections(2, &[2.0, 1.0, 1.0], &answers::HOUSEHOLDER_QL_REFUSED);
+}
+
 fn show_solvers() {
-    let large = [1.0, 1e200, 1e200, 1.0];
-    let upper = [0.0, 1.0, 0.0, 0.0];
-    let ordinary = [2.0, 1.0, 1.0, 2.0];
-    let three = [2.0, 1.0, 1.0];
-    show_rotations(&large, &answers::SYMMETRIC_EIGEN_LARGE);
-    show_rotations(&upper, &answers::SYMMETRIC_EIGEN_UPPER);
-    show_rotations(&ordinary, &answers::SYMMETRIC_EIGEN_ORDINARY);
-    show_rotations(&three, &answers::SYMMETRIC_EIGEN_REFUSED);
-    show_reflections(&large, &answers::HOUSEHOLDER_QL_LARGE);
-    show_reflections(&upper, &answers::HOUSEHOLDER_QL_UPPER);
-    show_reflections(&ordinary, &answers::HOUSEHOLDER_QL_ORDINARY);
-    show_reflections(&three, &answers::HOUSEHOLDER_QL_REFUSED);
+    let mut tiny = [0.0; 9];
+    replay::load(&answers::TINY, 0, &mut tiny);
+    show_all_rotations(&tiny);
+    show_all_reflections(&tiny);
 }
 
 // The functions of a cap behind the refusal's number.
@@ -92,7 +104,7 @@ fn show_ranked(orders: &[f64; 4], concentrations: &[f64; 4], vectors: &[f64; 6],
 }
 
 // A cap of degree 1, with one place behind each output but the last, which is lent.
-fn show_cap(settled: &mut [f64], due: &[u64])
+fn show_cap(cosine: f64, settled: &mut [f64], due: &[u64])
     requires { ⌜ 15 + length (now settled) ≤ length (now due) ⌝ }
 {
     let weights = [1.0, 0.5];
@@ -103,7 +115,7 @@ fn show_cap(settled: &mut [f64], due: &[u64])
     let mut vectors = [MARK; 6];
     let number = geopotential_polar_cap(
         1,
-        0.25,
+        cosine,
         &weights,
         &latitudes,
         &mut work,
@@ -117,11 +129,47 @@ fn show_cap(settled: &mut [f64], due: &[u64])
     show(b"polar_cap, settled and counts ", settled, due, 15);
 }
 
+// One that settles, one whose order 0 does not (its cosine is infinite), and one with a place too few.
 fn show_caps() {
     let mut settled = [MARK; 5];
-    show_cap(&mut settled, &answers::CAP);
+    show_cap(0.25, &mut settled, &answers::CAP);
+    let mut partly = [MARK; 5];
+    show_cap(1.0 / 0.0, &mut partly, &answers::CAP_INFINITE);
     let mut short = [MARK; 3];
-    show_cap(&mut short, &answers::CAP_REFUSED);
+    show_cap(0.25, &mut short, &answers::CAP_REFUSED);
+}
+
+// How the solver ended for each order of a cap of degree 32 at most, whose weights and pairs are lent.
+fn show_long_cap(lmax: usize, cosine: f64, weights: &[f64], latitudes: &[f64], due: &[u64; 66]) {
+    let mut work = [MARK; 19855];
+    let mut orders = [MARK; 561];
+    let mut concentrations = [MARK; 561];
+    let mut vectors = [MARK; 12529];
+    let mut settled = [MARK; 66];
+    let number = geopotential_polar_cap(
+        lmax,
+        cosine,
+        weights,
+        latitudes,
+        &mut work,
+        &mut orders,
+        &mut concentrations,
+        &mut vectors,
+        &mut settled,
+    );
+    show_words(b"polar_cap, refusal ", &[number as u64], &[0], 0);
+    show(b"polar_cap, settled and counts ", &settled, due, 0);
+}
+
+fn show_long_caps() {
+    show_long_cap(
+        16,
+        1.0 / 0.0,
+        &[0.5; 17],
+        &[0.5; 34],
+        &answers::CAP_16_INFINITE,
+    );
+    show_long_cap(32, 0.5, &[0.5; 33], &[0.5; 66], &answers::CAP_32);
 }
 
 // What is told of its lists, with a place behind the lengths.
@@ -168,6 +216,7 @@ fn show_lengths_short() {
 pub fn show_ended() {
     show_solvers();
     show_caps();
+    show_long_caps();
     show_lengths(b"polar_cap_lengths ", 2, &answers::CAP_LENGTHS);
     show_lengths(
         b"polar_cap_lengths, 181 ",

@@ -7,7 +7,7 @@ use native.Mathlib.Omega.{arith}
 use Rattle.storage.specs.Iterate.{iterateUntil, until-stop}
 
 module _ {S : Type 0} (met : S → Bool) (count : S → ℕ) where
-  -- what the flag tells of the count after at most k steps from a count of c, and the count of the flag
+  -- after at most k steps from a count of c: the count has not fallen, and what the flag tells of it
   pub record Told (c k : ℕ) (s : S) : Type 0 where
     pub more : c ≤ count s
     pub early : met s ≡ true → count s < c + k

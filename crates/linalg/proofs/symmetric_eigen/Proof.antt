@@ -7,7 +7,7 @@ use Rattle.refusal.specs.declared.Answer.the-variants.{Done}
 use Rattle.linalg.specs.Eigen.{eigenCheck}
 use Rattle.linalg.specs.Checks.{accepted}
 use Rattle.linalg.specs.Solution.{solution-refused, solution-solved, count-within}
-use Rattle.linalg.specs.Limits.{eigen-limit}
+use Rattle.linalg.specs.Limits.{eigen-count-limit}
 use Rattle.linalg.proofs.symmetric_eigen.Statement.{statement}
 use Rattle.linalg.proofs.symmetric_eigen.Tie as tie
 
@@ -36,7 +36,7 @@ returns-2 c =
     let is = made .1 .1 .1 in (
       solution-solved (done (p .before .before .before .before)) is,
       (
-        count-within is (eigen-limit (a .n) (a .a .now)),
+        count-within is (eigen-count-limit (a .n) (a .a .now)),
         (made .0 .is, (made .1 .0 .is, (made .1 .1 .0 .behind, made .1 .1 .0 .long))),
       ),
     )

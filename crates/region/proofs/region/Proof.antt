@@ -4,7 +4,7 @@ use mathlib.Core.Path.{refl, sym, _∙_}
 use borrow.Author.Needs.{needs}
 use Rattle.linalg.specs.Solution.{solution-refused, solution-solved, count-within}
 use Rattle.region.specs.RegionChecks.{region-accepted}
-use Rattle.region.specs.RegionSolve.{region-limit}
+use Rattle.region.specs.RegionSolve.{region-count-limit}
 use Rattle.region.proofs.region.Statement.{statement}
 use Rattle.region.proofs.region.Tie as tie
 
@@ -29,7 +29,7 @@ returns-2 c =
     let ended = compute .ensures .1 in (
       solution-solved (sym (enum-told .given .1) ∙ region-check .ensures) ended,
       (
-        count-within ended (region-limit _ _),
+        count-within ended (region-count-limit _ _),
         (m .concentrations .is, (m .cosines .is, (m .sines .is, (m .kept .behind, m .kept .long)))),
       ),
     )

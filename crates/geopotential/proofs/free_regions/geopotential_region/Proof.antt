@@ -6,7 +6,7 @@ use Rattle.storage.specs.Fill.{length-fill}
 use Rattle.linalg.specs.Solution.{outcome, outcome-is}
 use Rattle.region.specs.Region.{regionCheck}
 use Rattle.geopotential.specs.Models.{after-length}
-use Rattle.geopotential.specs.Matrices.{settled-is, count-is, count-within}
+use Rattle.geopotential.specs.Matrices.{settled-is, count-is, handed-within}
 use Rattle.geopotential.proofs.free_regions.geopotential_region.Statement.{statement}
 use Rattle.geopotential.proofs.free_regions.geopotential_region.Tie as tie
 
@@ -43,7 +43,7 @@ returns c =
                 f .ensures .1 .1 .1 .1 .1 .1,
                 (
                   h .1 .0 ∙ settled-is check _ (a .settled .now) (f .ensures .0),
-                  (h .1 .1 ∙ count-is check _ (a .count .now) (f .ensures .0), count-within (f .result) _ (a .count .now) (h .0) (h .1 .1) (f .ensures .1 .0)),
+                  (h .1 .1 ∙ count-is check _ (a .count .now) (f .ensures .0), handed-within (f .result) _ (a .count .now) (h .0) (h .1 .1) (f .ensures .1 .0)),
                 ),
               ),
             ),

@@ -1,5 +1,5 @@
 -- `matrices::hand_on_convergence` meets its contract: each kind of answer has its numbers. Assumes nothing.
-use mathlib.Core.Path.{refl, _∙_}
+use mathlib.Core.Path.{refl}
 use borrow.Author.Needs.{needs}
 use Rattle.geopotential.proofs.matrices.hand_on_convergence.Statement.{statement}
 use Rattle.geopotential.proofs.matrices.hand_on_convergence.Tie as tie

@@ -30,7 +30,8 @@ slice-aggregate-polar-cap-7 c = sym (length-take-le _ _ (omega arith))
 pub cap-spec : {M : Type 1} → statement M
 cap-spec =
     tie.close
-    (tie.spec (λ c κs. search needs) (λ c κs. search needs) (λ c κs. search needs) (λ c κs. search needs) (λ c κs. search needs) (λ c κs. search needs)
-    (λ c κs. search needs) (λ c κs. search needs) slice-aggregate-polar-cap slice-aggregate-polar-cap-2 (λ c. search needs) slice-aggregate-polar-cap-3 (λ c. search needs)
-    slice-aggregate-polar-cap-4 (λ c. search needs) slice-aggregate-polar-cap-5 (λ c. search needs) slice-aggregate-polar-cap-6 (λ c. search needs) slice-aggregate-polar-cap-7 (λ c κs. search needs)
-    (λ c κs. search needs) (λ c. search needs) (λ c. search needs) (λ c. search needs) (λ c. search needs) (λ c. search needs) (λ c. search needs))
+    (tie.spec (λ c κs. search needs) (λ c κs. search needs) (λ c κs. search needs) (λ c κs. search needs) (λ c κs. search needs)
+    (λ c κs. search needs) (λ c κs. search needs) (λ c κs. search needs) slice-aggregate-polar-cap slice-aggregate-polar-cap-2 (λ c. search needs)
+    slice-aggregate-polar-cap-3 (λ c. search needs) slice-aggregate-polar-cap-4 (λ c. search needs) slice-aggregate-polar-cap-5 (λ c. search needs)
+    slice-aggregate-polar-cap-6 (λ c. search needs) slice-aggregate-polar-cap-7 (λ c κs. search needs) (λ c κs. search needs) (λ c. search needs)
+    (λ c. search needs) (λ c. search needs) (λ c. search needs) (λ c. search needs) (λ c. search needs))
