@@ -1,1 +1,2 @@
 pub mod Derivative
+pub mod Mirror

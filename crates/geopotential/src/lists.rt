@@ -146,6 +146,22 @@ pub extern "C" fn geopotential_legendre_compute_with_derivative_lengths(
 }
 
 #[no_mangle]
+pub extern "C" fn geopotential_legendre_mirror_lengths(nmax: usize, lengths: &mut [usize]) -> u32
+    ensures { λ x. ⌜ x ≡ answerNumber (lengthsCheck (degreeSize nmax) (tablesLengths 1 nmax) (length (now (lengths .entry)))) ⌝ }
+    ensures { λ x. ⌜ now (lengths .exit) ≡ lengthsAfter (degreeSize nmax) (tablesLengths 1 nmax) (now (lengths .entry)) ⌝ }
+{
+    refusal::answer_number(lengths::legendre_mirror(nmax, lengths))
+}
+
+#[no_mangle]
+pub extern "C" fn geopotential_legendre_mirror_derivative_lengths(nmax: usize, lengths: &mut [usize]) -> u32
+    ensures { λ x. ⌜ x ≡ answerNumber (lengthsCheck (degreeSize nmax) (tablesLengths 1 nmax) (length (now (lengths .entry)))) ⌝ }
+    ensures { λ x. ⌜ now (lengths .exit) ≡ lengthsAfter (degreeSize nmax) (tablesLengths 1 nmax) (now (lengths .entry)) ⌝ }
+{
+    refusal::answer_number(lengths::legendre_mirror_derivative(nmax, lengths))
+}
+
+#[no_mangle]
 pub extern "C" fn geopotential_legendre_entry_lengths(nmax: usize, lengths: &mut [usize]) -> u32
     ensures { λ x. ⌜ x ≡ answerNumber (lengthsCheck (degreeSize nmax) (tablesLengths 1 nmax) (length (now (lengths .entry)))) ⌝ }
     ensures { λ x. ⌜ now (lengths .exit) ≡ lengthsAfter (degreeSize nmax) (tablesLengths 1 nmax) (now (lengths .entry)) ⌝ }

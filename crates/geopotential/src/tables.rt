@@ -10,8 +10,9 @@ ghost use Rattle.storage.specs.Fill.{fill};
 ghost use Rattle.storage.specs.Triangle.{tableSize, along};
 ghost use Rattle.recursion.specs.Recursion.{aCell, bCell, pCell};
 ghost use Rattle.derivative.specs.Derivative.{dpCell};
-ghost use Rattle.legendre.specs.Checks.{computeCheck};
+ghost use Rattle.legendre.specs.Checks.{computeCheck, mirrorCheck};
 ghost use Rattle.legendre.specs.Grown.{grown};
+ghost use Rattle.legendre.specs.Mirrored.{mirrored};
 ghost use Rattle.quadrature.specs.Gauss.{gaussCheck, gaussNode, gaussWeight};
 
 #[no_mangle]
@@ -81,6 +82,24 @@ pub extern "C" fn geopotential_legendre_compute_with_derivative(
 {
     let latitude = Latitude { t, u };
     refusal::answer_number(legendre::compute_with_derivative(nmax, latitude, a, b, p, dp))
+}
+
+#[no_mangle]
+pub extern "C" fn geopotential_legendre_mirror(nmax: usize, table: &mut [f64]) -> u32
+    ensures { λ r. ⌜ r ≡ answerNumber (mirrorCheck nmax (length (now (table .entry)))) ⌝ }
+    ensures { λ r. ⌜ now (table .exit) ≡ after (mirrorCheck nmax (length (now (table .entry))))
+        (fill 0 (along (mirrored 0 (now (table .entry)))) (tableSize nmax) (now (table .entry))) (now (table .entry)) ⌝ }
+{
+    refusal::answer_number(legendre::mirror(nmax, table))
+}
+
+#[no_mangle]
+pub extern "C" fn geopotential_legendre_mirror_derivative(nmax: usize, table: &mut [f64]) -> u32
+    ensures { λ r. ⌜ r ≡ answerNumber (mirrorCheck nmax (length (now (table .entry)))) ⌝ }
+    ensures { λ r. ⌜ now (table .exit) ≡ after (mirrorCheck nmax (length (now (table .entry))))
+        (fill 0 (along (mirrored 1 (now (table .entry)))) (tableSize nmax) (now (table .entry))) (now (table .entry)) ⌝ }
+{
+    refusal::answer_number(legendre::mirror_derivative(nmax, table))
 }
 
 // One entry of a table of P, or of a table of its derivatives.

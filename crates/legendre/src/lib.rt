@@ -2,6 +2,7 @@
 // Holmes & Featherstone (2002): it runs on P(n, m) / u^m, scaled by 1e-280 against overflow, and the power of the cosine u comes last. Numbers that
 // are no sine and cosine, or no coefficients of `new`, are answered too, and a column of theirs may overflow.
 pub mod directions;
+mod mirrors;
 pub mod rows;
 
 use refusal::Answer;
@@ -17,8 +18,9 @@ ghost use Rattle.storage.specs.Fill.{fill};
 ghost use Rattle.storage.specs.Triangle.{tableSize, along};
 ghost use Rattle.recursion.specs.Recursion.{aCell, bCell, pCell};
 ghost use Rattle.derivative.specs.Derivative.{dpCell};
-ghost use Rattle.legendre.specs.Checks.{computeCheck};
+ghost use Rattle.legendre.specs.Checks.{computeCheck, mirrorCheck};
 ghost use Rattle.legendre.specs.Grown.{grown};
+ghost use Rattle.legendre.specs.Mirrored.{mirrored};
 
 // A geocentric latitude by its sine t and its cosine u.
 pub struct Latitude {
@@ -110,6 +112,22 @@ pub fn compute_with_derivative(
             Answer::Done
         }
     }
+}
+
+// The table of P at t becomes the table at -t, with the same u and the same recursion coefficients: P(n, m) times (-1)^(n - m).
+pub fn mirror(nmax: usize, table: &mut [f64]) -> Answer
+    ensures { λ r. ⌜ r ≡ mirrorCheck nmax (length (now (table .entry))) ⌝ }
+    ensures { λ r. ⌜ now (table .exit) ≡ after r (fill 0 (along (mirrored 0 (now (table .entry)))) (tableSize nmax) (now (table .entry))) (now (table .entry)) ⌝ }
+{
+    mirrors::mirror_by(0, nmax, table)
+}
+
+// The table of the derivatives by latitude likewise: each times (-1)^(n - m + 1).
+pub fn mirror_derivative(nmax: usize, table: &mut [f64]) -> Answer
+    ensures { λ r. ⌜ r ≡ mirrorCheck nmax (length (now (table .entry))) ⌝ }
+    ensures { λ r. ⌜ now (table .exit) ≡ after r (fill 0 (along (mirrored 1 (now (table .entry)))) (tableSize nmax) (now (table .entry))) (now (table .entry)) ⌝ }
+{
+    mirrors::mirror_by(1, nmax, table)
 }
 
 // P(n, m) from a table.

@@ -173,6 +173,22 @@ pub fn legendre_compute_with_derivative(nmax: usize, lengths: &mut [usize]) -> A
     leaves::tables(4, nmax, lengths)
 }
 
+// `legendre_mirror`: table.
+pub fn legendre_mirror(nmax: usize, lengths: &mut [usize]) -> Answer
+    ensures { λ x. ⌜ x ≡ lengthsCheck (degreeSize nmax) (tablesLengths 1 nmax) (length (now (lengths .entry))) ⌝ }
+    ensures { λ x. ⌜ now (lengths .exit) ≡ lengthsAfter (degreeSize nmax) (tablesLengths 1 nmax) (now (lengths .entry)) ⌝ }
+{
+    leaves::tables(1, nmax, lengths)
+}
+
+// `legendre_mirror_derivative`: table.
+pub fn legendre_mirror_derivative(nmax: usize, lengths: &mut [usize]) -> Answer
+    ensures { λ x. ⌜ x ≡ lengthsCheck (degreeSize nmax) (tablesLengths 1 nmax) (length (now (lengths .entry))) ⌝ }
+    ensures { λ x. ⌜ now (lengths .exit) ≡ lengthsAfter (degreeSize nmax) (tablesLengths 1 nmax) (now (lengths .entry)) ⌝ }
+{
+    leaves::tables(1, nmax, lengths)
+}
+
 // `legendre_entry`: the table.
 pub fn legendre_entry(nmax: usize, lengths: &mut [usize]) -> Answer
     ensures { λ x. ⌜ x ≡ lengthsCheck (degreeSize nmax) (tablesLengths 1 nmax) (length (now (lengths .entry))) ⌝ }

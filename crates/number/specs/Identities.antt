@@ -121,7 +121,8 @@ pub times-minus-one : (y : Float) → T (fits binary64 y) → y ⊗ neg one64 �
 unfolding neg ofBits
 times-minus-one y h = product-comm binary64 y (unit true) ∙ minus-one-times y h
 
-round-zero : (s : Bool) (x c : ℕ) → x ≡ 0 → 0 < c → round binary64 s x c ≡ fin s 0 (pos 0)
+-- 0 rounds to a zero
+pub round-zero : (s : Bool) (x c : ℕ) → x ≡ 0 → 0 < c → round binary64 s x c ≡ fin s 0 (pos 0)
 unfolding round
 round-zero s x c e h = round-same binary64 s x c 0 1 h (pow-pos 0) (ap (λ (i : ℕ). i * 1) e ∙ sym (zero-mul c))
 

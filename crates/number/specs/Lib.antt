@@ -11,6 +11,9 @@ pub mod Hypot
 pub mod Power
 pub mod Identities
 pub mod Units
+pub mod Parity
+pub mod Turned
+pub mod TurnedLaws
 pub mod Order
 pub mod OrderLaws
 pub mod Ranking

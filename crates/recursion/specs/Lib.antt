@@ -2,3 +2,4 @@ pub mod Recursion
 pub mod RecursionLaws
 pub mod Tables
 pub mod Pole
+pub mod Mirror

@@ -15,7 +15,7 @@ use lib.Ieee.{Float, nan, inf, fin, binary64, unlike, up, down, eq, round, ofBit
 use lib.Ieee.Fits.{and-l, up-pos, down-pos}
 use lib.Ieee.Scale.{finite, round-same}
 use Rattle.number.specs.Float64.{_⊗_, _⊘_, zero64, one64}
-use Rattle.number.specs.Identities.{product-comm, zero-times-nan}
+use Rattle.number.specs.Identities.{product-comm, round-zero, zero-times-nan}
 use Rattle.storage.specs.Fill.{fill}
 use Rattle.storage.specs.Filled.{filled}
 use Rattle.storage.specs.Triangle.{idx, tableSize, along, rows-at, idx-within}
@@ -69,10 +69,6 @@ module _ (a b : ℕ → Float) (t : Float) where
       subst (λ (i : ℕ). T (not (finite (q a b t m i)))) e (not-finite-later m (k - m) (n - m - (k - m)) h)
 
 -- ---- a finite number times a zero of either sign is a zero
-round-zero : (s : Bool) (x c : ℕ) → x ≡ 0 → 0 < c → round binary64 s x c ≡ fin s 0 (pos 0)
-unfolding round
-round-zero s x c e h = round-same binary64 s x c 0 1 h (pow-pos 0) (ap (λ (i : ℕ). i * 1) e ∙ sym (zero-mul c))
-
 zero-digits : (s : Bool) (m : ℕ) (e : ℤ) → eq (fin s m e) zero64 ≡ true → m ≡ 0
 unfolding eq ofBits
 zero-digits s zero e h = refl
