@@ -1,3 +1,4 @@
 pub mod Model
 pub mod Checks
 pub mod Values
+pub mod Cuts

@@ -106,3 +106,13 @@ turned-back true (zeros t t′) = zeros (not t) t′
 turned-back true (numbers true m e) = numbers false m e
 turned-back true (numbers false m e) = numbers true m e
 turned-back false h = h
+
+-- turned twice a number is what it was
+pub turned-twice : (s : Bool) (x : Float) → turnedIf s (turnedIf s x) ≡ x
+unfolding neg
+turned-twice true nan = refl
+turned-twice true (inf true) = refl
+turned-twice true (inf false) = refl
+turned-twice true (fin true m e) = refl
+turned-twice true (fin false m e) = refl
+turned-twice false x = refl

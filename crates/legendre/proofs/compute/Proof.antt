@@ -1,5 +1,6 @@
 -- `compute` meets its contract: each way through its checks, and the table past them. Assumes nothing.
 use Rattle.legendre.specs.Checks.{compute-tables, compute-space, compute-done}
+use Rattle.legendre.specs.MirrorLaws.{compute-promise}
 use Rattle.storage.specs.Answers.{size-is}
 use Rattle.storage.specs.Checks.{tables-passed}
 use borrow.Author.Needs.{needs}
@@ -13,7 +14,8 @@ returns c =
     let ok = sym (c .before .before .enum-told .given .1) ∙ c .before .before .before .before .tables-check .ensures in
     let t = tables-passed _ _ _ ok in
     let z = size-is _ (t .top) in
-    (compute-space _ _ _ _ ok (omega arith), refl)
+    let a = c .before .before .before .before .before .before .before .before .args in
+    compute-promise (a .nmax) (a .latitude .t) (a .latitude .u) (a .a .now) (a .b .now) (a .p .now) (record { answers = compute-space (a .nmax) _ _ _ ok (omega arith); leaves = refl })
 
 compute-requires : tie.Need-compute-requires
 compute-requires c κs =
@@ -23,7 +25,10 @@ compute-requires c κs =
     (t .top, (omega arith, (omega arith, omega arith)))
 
 returns-2 : tie.Need-returns-2
-returns-2 c = (compute-tables _ _ _ _ (sym (c .before .e .given .1) ∙ c .before .before .before .tables-check .ensures), refl)
+returns-2 c =
+    let refused = sym (c .before .e .given .1) ∙ c .before .before .before .tables-check .ensures in
+    let a = c .before .before .before .before .before .before .before .args in
+    compute-promise (a .nmax) (a .latitude .t) (a .latitude .u) (a .a .now) (a .b .now) (a .p .now) (record { answers = compute-tables (a .nmax) _ _ _ refused; leaves = refl })
 
 returns-3 : tie.Need-returns-3
 returns-3 c =
@@ -31,7 +36,8 @@ returns-3 c =
     let ok = sym (told .enum-told .given .1) ∙ told .before .before .tables-check .ensures in
     let t = tables-passed _ _ _ ok in
     let z = size-is _ (t .top) in
-    (compute-done _ _ _ _ ok (omega arith), c .before .before .compute .ensures .is)
+    let a = c .before .before .before .before .before .before .before .before .before .before .before .before .args in
+    compute-promise (a .nmax) (a .latitude .t) (a .latitude .u) (a .a .now) (a .b .now) (a .p .now) (record { answers = compute-done (a .nmax) _ _ _ ok (omega arith); leaves = c .before .before .compute .ensures .is })
 
 pub compute-spec : {M : Type 1} → statement M
 compute-spec =

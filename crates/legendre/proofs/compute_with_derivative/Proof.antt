@@ -2,6 +2,7 @@
 use Rattle.storage.specs.Answers.{size-is}
 use Rattle.storage.specs.Checks.{outputs-passed}
 use Rattle.derivative.specs.Derivative.{derived}
+use Rattle.legendre.specs.MirrorLaws.{derive-promise}
 use native.Mathlib.Omega.{arith}
 use mathlib.Core.Path.{refl, sym, _∙_}
 use borrow.Author.Needs.{needs}
@@ -22,14 +23,20 @@ derive-requires c κs =
     (o .tables .top, (omega arith, omega arith))
 
 returns : tie.Need-returns
-returns c = (sym (c .before .e .given .1) ∙ c .before .before .before .outputs-check .ensures, (refl, refl))
+returns c =
+    let refused = sym (c .before .e .given .1) ∙ c .before .before .before .outputs-check .ensures in
+    let a = c .before .before .before .before .before .before .before .before .args in
+    derive-promise (a .nmax) (a .latitude .t) (a .latitude .u) (a .a .now) (a .b .now) (a .p .now) (a .dp .now) (record { answers = refused; leaves = refl; leaves-derivative = refl })
 
 returns-2 : tie.Need-returns-2
 returns-2 c =
     let ok = sym (c .before .before .before .before .before .before .before .before .before .enum-told .given .1) ∙ c .before .before .before .before .before .before .before .before .before .before .before .outputs-check .ensures in
     let o = outputs-passed _ _ _ _ _ _ ok in
     let z = size-is _ (o .tables .top) in
-    (ok, (c .before .before .before .before .before .before .before .compute .ensures .is, derived _ _ (c .before .before .before .before .before .before .before .compute .ensures) (omega arith) (c .before .before .derive .ensures) .is))
+    let values = c .before .before .before .before .before .before .before .compute .ensures in
+    let a = c .before .before .before .before .before .before .before .before .before .before .before .before .before .before .before .before .args in
+    derive-promise (a .nmax) (a .latitude .t) (a .latitude .u) (a .a .now) (a .b .now) (a .p .now) (a .dp .now) (
+    record { answers = ok; leaves = values .is; leaves-derivative = derived _ _ values (omega arith) (c .before .before .derive .ensures) .is })
 
 pub compute-with-derivative-spec : {M : Type 1} → statement M
 compute-with-derivative-spec =
