@@ -3,9 +3,9 @@
 
     compare/run bench > FILE && python3 compare/ratios.py FILE
 
-A ratio is our time by the Rust's in one run, or by that of our own `new` where the row says so; the limits of the root and of the last row of the
-recursion coefficients are in nanoseconds a call, a model file's in GB/s at least. Times depend on the machine and on what else it does, so a row beyond
-its limit is said and is no failure; a row that the benchmark did not print is one.
+A ratio is our time by the Rust's in one run, or by that of our own `new` or `compute` where the row says so; the limits of the root and of the last row
+of the recursion coefficients are in nanoseconds a call, a model file's in GB/s at least. Times depend on the machine and on what else it does, so a row
+beyond its limit is said and is no failure; a row that the benchmark did not print is one.
 """
 import sys
 
@@ -20,6 +20,12 @@ ROWS = [
     ("compute N = 2700", "compute, N = 2700", "ratio", 0.2),
     ("compute_with_derivative N = 96", "compute_with_derivative, N = 96", "ratio", 1.5),
     ("compute_with_derivative N = 2700", "compute_with_derivative, N = 2700", "ratio", 0.6),
+    ("mirror N = 96", "mirror, N = 96", "ratio", 0.5),
+    ("mirror N = 2700", "mirror, N = 2700", "ratio", 0.5),
+    ("mirror N = 96, beside our compute", "mirror, N = 96, beside our compute", "ratio", 0.5),
+    ("mirror N = 2700, beside our compute", "mirror, N = 2700, beside our compute", "ratio", 0.5),
+    ("mirror with derivative N = 96", "mirror with derivative, N = 96", "ratio", 0.2),
+    ("mirror with derivative N = 2700", "mirror with derivative, N = 2700", "ratio", 0.2),
     ("grid 181 x 361, N = 96", "grid 181 x 361, N = 96", "ratio", 0.75),
     ("grid, a row of 361, N = 2700, no tables", "grid, a row of 361, N = 2700, no tables", "ratio", 0.25),
     ("basin_average N = 96", "basin_average, N = 96", "ratio", 1.0),

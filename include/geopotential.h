@@ -1,16 +1,19 @@
 /* geopotential.h: the C entries of the verified gravity-field library libgeopotential.a (x86-64).
  *
- * Every entry is proved to end, to refuse exactly what is written here and to hand back the bits of the published recurrences. Those of grid and
- * basin_average are also proved to lie within a margin of the exact sum, under a premise; both are written there.
+ * Every entry is proved to end, to refuse exactly what is written here and to hand back the bits of the published recurrences; legendre_mirror and
+ * legendre_mirror_derivative, which the published Rust has not, turn signs as is written there. Values of grid and basin_average are also proved to
+ * lie within a margin of the exact sum, under a premise; both are written there.
  *
  * Lists     A list is a pointer and then its length. N is the highest degree nmax and T = (N+1)(N+2)/2; the pair of degree n and order m
  *           stands at n(n+1)/2 + m. A latitude is its sine t and its cosine u; in a list t stands before its u and a cosine before its
  *           sine. A pointer is never null, also that of a list of length 0, and no list that is written overlaps another list of the call.
  * Lengths   For each entry with lists, NAME_lengths answers the length of every list, in the order of the parameters. Input lists have
- *           exactly that length (Love numbers at least that), outputs and working lists that length or more.
+ *           exactly that length (Love numbers at least that), and so have lists that are changed in place (set, legendre_mirror,
+ *           legendre_mirror_derivative); outputs and working lists have that length or more.
  * Answers   0 where the call is done, else the number of the refusal below. A refused call writes nothing. A call that is done writes
- *           its answer at the front of each output (legendre_grow: behind the rows that stand there) and nothing behind it; input lists
- *           are never written. What a working list holds in its first numbers afterwards is free, the part behind them keeps its bits.
+ *           its answer at the front of each output (legendre_grow: behind the rows that stand there) and nothing behind it; of a list that
+ *           is changed in place it changes the numbers that are named there and no others; input lists are never written. What a working list
+ *           holds in its first numbers afterwards is free, the part behind them keeps its bits.
  * Order     A call checks SIZE, then LENGTH, then LOVE, then SPACE; a number that is no functional is refused before all (255).
  * NaN       Any number is ordinary input, NaN and infinities too. The bits of a NaN in an answer are free, but in a model file all bits
  *           are kept.
@@ -36,7 +39,7 @@ enum geopotential_answer {
     GEOPOTENTIAL_DONE = 0,
     GEOPOTENTIAL_SIZE = 1,   /* a degree above 2700 (Gauss 2701, matrix 512, cap 180, region 21), or more than 65,535 rows, longitudes, points or
                               * nodes */
-    GEOPOTENTIAL_LENGTH = 2, /* an input list has not exactly its length */
+    GEOPOTENTIAL_LENGTH = 2, /* an input list, or one that is changed in place, has not exactly its length */
     GEOPOTENTIAL_SPACE = 3,  /* an output list is shorter than its answer, or a working list too short */
     GEOPOTENTIAL_PLACE = 4,  /* an entry outside the table */
     GEOPOTENTIAL_LOVE = 5,   /* water heights without a Love number for each degree */
@@ -94,8 +97,8 @@ uint32_t geopotential_coefficient_c(size_t nmax, const double *c, size_t c_len, 
 uint32_t geopotential_coefficient_s(size_t nmax, const double *s, size_t s_len, size_t n, size_t m, double *value);
 /* Sets one pair and no other. Refused by 1, 2 (c and s have exactly T numbers), 4. */
 uint32_t geopotential_set(size_t nmax, double *c, size_t c_len, double *s, size_t s_len, size_t n, size_t m, double cnm, double snm);
-/* The field up to the smaller of nmax and cut, which goes to *degree; a cut is never refused. Refused by 1, 2, 3; *degree is left alone on a
- * refusal. */
+/* The field up to the smaller of nmax and cut, which goes to *degree; a cut is never refused. Cutting a field at one degree and what was written
+ * at another is cutting it at the smaller of the two. Refused by 1, 2, 3; *degree is left alone on a refusal. */
 uint32_t geopotential_truncated(size_t nmax, const double *c, size_t c_len, const double *s, size_t s_len, size_t cut, double *outc,
                                 size_t outc_len, double *outs, size_t outs_len, size_t *degree);
 /* The same potential by another gm and radius. Refused by 1, 2, 3. */
@@ -137,6 +140,14 @@ uint32_t geopotential_legendre_compute(size_t nmax, double t, double u, const do
 /* P(n, m) and its derivative by latitude. Refused by 1, 2, 3. */
 uint32_t geopotential_legendre_compute_with_derivative(size_t nmax, double t, double u, const double *a, size_t a_len, const double *b,
                                                        size_t b_len, double *p, size_t p_len, double *dp, size_t dp_len);
+/* Mirrors a table at the equator, in its own list: each entry with n-m odd becomes its negative, the others stay. The table of legendre_compute at
+ * t, u becomes that at -t, u with the same a and b: equal entry by entry, where zeros of either sign count as equal and NaN as NaN, for every t and
+ * u and all a, b, NaN and infinities among them. A table of second derivatives by latitude is mirrored by this entry too. table: exactly T, since it
+ * is read. Refused by 1, 2 in this order. */
+uint32_t geopotential_legendre_mirror(size_t nmax, double *table, size_t table_len);
+/* The same for the derivatives dp of legendre_compute_with_derivative: each entry with n-m even becomes its negative. Refused by 1, 2 in this
+ * order. */
+uint32_t geopotential_legendre_mirror_derivative(size_t nmax, double *table, size_t table_len);
 /* One entry of a table of P or of its derivatives. Refused by 1, 2, 4; *value is left alone on a refusal. */
 uint32_t geopotential_legendre_entry(size_t nmax, const double *table, size_t table_len, size_t n, size_t m, double *value);
 /* The n nodes and weights of a Gauss-Legendre rule, from n/2 guesses, rounded up, the largest root's first. x, w: n. Refused by 1 (n above
@@ -285,6 +296,8 @@ uint32_t geopotential_legendre_new_lengths(size_t nmax, size_t *lengths, size_t 
 uint32_t geopotential_legendre_grow_lengths(size_t nmax, size_t *lengths, size_t lengths_len);                    /* a, b */
 uint32_t geopotential_legendre_compute_lengths(size_t nmax, size_t *lengths, size_t lengths_len);                 /* a, b, p */
 uint32_t geopotential_legendre_compute_with_derivative_lengths(size_t nmax, size_t *lengths, size_t lengths_len); /* a, b, p, dp */
+uint32_t geopotential_legendre_mirror_lengths(size_t nmax, size_t *lengths, size_t lengths_len);                  /* table */
+uint32_t geopotential_legendre_mirror_derivative_lengths(size_t nmax, size_t *lengths, size_t lengths_len);       /* table */
 uint32_t geopotential_legendre_entry_lengths(size_t nmax, size_t *lengths, size_t lengths_len);                   /* table */
 uint32_t geopotential_gauss_legendre_lengths(size_t n, size_t *lengths, size_t lengths_len);                      /* guesses, x, w */
 /* c, s, love, latitudes, trig, work, out */

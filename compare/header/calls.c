@@ -84,6 +84,9 @@ static void coefficients(void)
     CHECK(geopotential_truncated_lengths(2, 1, lengths, LISTS) == GEOPOTENTIAL_DONE && lengths[2] == 3);
     CHECK(geopotential_truncated(2, c, size, s, size, 1, outc, lengths[2], outs, lengths[3], &degree) == GEOPOTENTIAL_DONE);
     CHECK(degree == 1 && outc[2] == 0 && outc[3] == 7);
+    /* Cut once more: what was written, at 0, is the field cut at 0. */
+    CHECK(geopotential_truncated(1, outc, 3, outs, 3, 0, out, 1, &value, 1, &degree) == GEOPOTENTIAL_DONE);
+    CHECK(degree == 0 && out[0] == c[0] && value == s[0]);
     CHECK(geopotential_rescaled_lengths(2, lengths, LISTS) == GEOPOTENTIAL_DONE && lengths[3] == size);
     CHECK(geopotential_rescaled(8, 1, 2, c, size, s, size, 4, 2, outc, size, outs, size) == GEOPOTENTIAL_DONE && outc[4] == 1.5);
     CHECK(geopotential_degree_variances_lengths(2, lengths, LISTS) == GEOPOTENTIAL_DONE && lengths[2] == 3);
@@ -181,6 +184,43 @@ static void growing_tables(void)
     CHECK(geopotential_legendre_grow(2, 3, a, more, b, more) == GEOPOTENTIAL_DONE);
     CHECK(same(a, wholea, size) && same(b, wholeb, size) && a[size] == 7 && b[size] == 7);
     free(a), free(b), free(wholea), free(wholeb), free(sevens);
+}
+
+/* Whether two lists have equal numbers, zeros of either sign and NaN among them. */
+static int equal(const double *x, const double *y, size_t length)
+{
+    for (size_t i = 0; i < length; i++)
+        if (x[i] != y[i] && !(isnan(x[i]) && isnan(y[i]))) return 0;
+    return 1;
+}
+
+/* Tables up to degree 2 at t = 0.6, mirrored, beside those at t = -0.6. */
+static void mirrored_tables(void)
+{
+    size_t lengths[LISTS];
+    CHECK(geopotential_legendre_mirror_lengths(2, lengths, 1) == GEOPOTENTIAL_DONE && lengths[0] == 6);
+    const size_t size = lengths[0], more = size + 1;
+    CHECK(geopotential_legendre_mirror_derivative_lengths(2, lengths, 1) == GEOPOTENTIAL_DONE && lengths[0] == size);
+    CHECK(geopotential_legendre_mirror_lengths(2701, lengths, 1) == GEOPOTENTIAL_SIZE && lengths[0] == size);
+    CHECK(geopotential_legendre_mirror_derivative_lengths(2, lengths, 0) == GEOPOTENTIAL_SPACE && lengths[0] == size);
+    double *a = list(size), *b = list(size), *p = list(size), *dp = list(size), *south = list(size), *dsouth = list(size);
+    CHECK(geopotential_legendre_new(2, a, size, b, size) == GEOPOTENTIAL_DONE);
+    CHECK(geopotential_legendre_compute_with_derivative(2, -0.6, 0.8, a, size, b, size, south, size, dsouth, size) == GEOPOTENTIAL_DONE);
+    CHECK(geopotential_legendre_compute_with_derivative(2, 0.6, 0.8, a, size, b, size, p, size, dp, size) == GEOPOTENTIAL_DONE);
+    CHECK(geopotential_legendre_mirror(2, p, size) == GEOPOTENTIAL_DONE && equal(p, south, size) && p[1] < 0 && p[size] == 7);
+    CHECK(geopotential_legendre_mirror_derivative(2, dp, size) == GEOPOTENTIAL_DONE && equal(dp, dsouth, size) && dp[size] == 7);
+    /* The derivative of P(0, 0) is +0 on either side, and mirrored it is -0. */
+    CHECK(dp[0] == 0 && signbit(dp[0]) && !signbit(dsouth[0]));
+    /* Refused, the degree before the length: nothing is written. */
+    memcpy(south, p, more * sizeof *p);
+    CHECK(geopotential_legendre_mirror(2701, p, size) == GEOPOTENTIAL_SIZE);
+    CHECK(geopotential_legendre_mirror_derivative(2701, p, 0) == GEOPOTENTIAL_SIZE);
+    CHECK(geopotential_legendre_mirror(2, p, size - 1) == GEOPOTENTIAL_LENGTH);
+    CHECK(geopotential_legendre_mirror(2, p, more) == GEOPOTENTIAL_LENGTH);
+    CHECK(geopotential_legendre_mirror_derivative(2, p, size - 1) == GEOPOTENTIAL_LENGTH);
+    CHECK(geopotential_legendre_mirror_derivative(2, p, more) == GEOPOTENTIAL_LENGTH);
+    CHECK(same(p, south, more));
+    free(a), free(b), free(p), free(dp), free(south), free(dsouth);
 }
 
 /* A point mass (c(0, 0) = 1) at twice its reference radius: V = gm/r, and a grid of two rows and three longitudes. */
@@ -379,6 +419,7 @@ int main(void)
     model_files();
     tables();
     growing_tables();
+    mirrored_tables();
     grid();
     points();
     second_derivatives();

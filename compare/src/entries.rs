@@ -28,6 +28,8 @@ unsafe extern "C" {
     pub fn geopotential_coefficient_c_lengths(nmax: usize, lengths: *mut usize, lengths_len: usize) -> u32;
     pub fn geopotential_coefficient_s_lengths(nmax: usize, lengths: *mut usize, lengths_len: usize) -> u32;
     pub fn geopotential_set_lengths(nmax: usize, lengths: *mut usize, lengths_len: usize) -> u32;
+    pub fn geopotential_legendre_mirror_lengths(nmax: usize, lengths: *mut usize, lengths_len: usize) -> u32;
+    pub fn geopotential_legendre_mirror_derivative_lengths(nmax: usize, lengths: *mut usize, lengths_len: usize) -> u32;
     pub fn geopotential_legendre_entry_lengths(nmax: usize, lengths: *mut usize, lengths_len: usize) -> u32;
     pub fn geopotential_acceleration_neu_lengths(lengths: *mut usize, lengths_len: usize) -> u32;
     pub fn geopotential_gravity_neu_lengths(lengths: *mut usize, lengths_len: usize) -> u32;

@@ -40,7 +40,8 @@ usage: compare [--seed NUMBER] [--quick] [SUBJECT...]   same bits as the oracle,
        compare replay SUBJECT FILE                      write the oracle's answers as Rattle constants
        compare margins FILE [COUNT [SEED]]              write values and their sums' numbers, for margins.py
 subjects: number, functional, coefficients, model_file, legendre, synthesis, partials, second_partials, analysis, linalg, slepian, lengths;
-          for replay also refusals, refusals_files, refusals_fields, refusals_points, refusals_c, regions, refusals_regions, values_c, solvers_c";
+          for replay also mirror, refusals, refusals_files, refusals_fields, refusals_points, refusals_c, regions, refusals_regions, values_c,
+          solvers_c";
 
 /// One crate of the library: what can be done with it here.
 struct Subject {
@@ -93,6 +94,7 @@ const SUBJECTS: &[Subject] = &[
     Subject { name: "refusals_fields", compare: |_| (), bench: None, replay: Some(refusals::fields::replay) },
     Subject { name: "refusals_points", compare: |_| (), bench: None, replay: Some(refusals::points::replay) },
     Subject { name: "refusals_c", compare: |_| (), bench: None, replay: Some(refusals::entries::replay) },
+    Subject { name: "mirror", compare: |_| (), bench: None, replay: Some(legendre::mirror_replay::replay) },
     Subject { name: "regions", compare: |_| (), bench: None, replay: Some(slepian::region_replay::replay) },
     Subject { name: "refusals_regions", compare: |_| (), bench: None, replay: Some(refusals::regions::replay) },
     Subject { name: "values_c", compare: |_| (), bench: None, replay: Some(refusals::values::replay) },

@@ -140,7 +140,49 @@ impl Legendre {
         self.computed = true;
     }
 
-    /// `P̄nm` from the last [`compute`](Self::compute).
+    /// Make it the table of the latitude −φ, without a second recursion: `P̄nm` is turned into `(−1)^(n−m) P̄nm`, and
+    /// `∂P̄nm/∂φ`, where there is a table of derivatives, into `(−1)^(n−m+1) ∂P̄nm/∂φ`. Only signs change. Where no latitude has been
+    /// computed since the table was made or [grew](Self::grow), nothing changes: `P̄nm` stays 0. Added: the published table has no such
+    /// call.
+    ///
+    /// Each entry then equals the one that is computed at `-lat`, under `==`: a zero may have the other sign, and NaN counts as NaN. That
+    /// holds for every `lat` whose sine and cosine the standard library answers as those of `-lat`, the sine's sign turned.
+    ///
+    /// Each table is turned by itself: where [`compute`](Self::compute) came after
+    /// [`compute_with_derivative`](Self::compute_with_derivative), the derivatives are still those of the earlier latitude, and they
+    /// become those of its negative.
+    ///
+    /// The northern half is computed, and the southern half reuses it:
+    ///
+    /// ```
+    /// use geopotential::Legendre;
+    ///
+    /// let (mut leg, mut south) = (Legendre::new(5), Legendre::new(5));
+    /// for lat in [0.0, 0.3, 0.7, 1.2] {
+    ///     leg.compute_with_derivative(lat);
+    ///     // Here the sums of the northern parallel would be taken.
+    ///     leg.mirror();
+    ///     // And here those of the southern one. A table computed there has the same numbers, a zero of either sign being 0.
+    ///     south.compute_with_derivative(-lat);
+    ///     for n in 0..=5 {
+    ///         for m in 0..=n {
+    ///             assert!(leg.p(n, m) == south.p(n, m) && leg.dp(n, m) == south.dp(n, m));
+    ///         }
+    ///     }
+    /// }
+    /// ```
+    pub fn mirror(&mut self) {
+        // The zeros of a table without a latitude keep their sign.
+        if !self.computed {
+            return;
+        }
+        or_panic(tables::legendre_mirror(self.nmax, &mut self.p));
+        if !self.dp.is_empty() {
+            or_panic(tables::legendre_mirror_derivative(self.nmax, &mut self.dp));
+        }
+    }
+
+    /// `P̄nm` from the last [`compute`](Self::compute), as each [`mirror`](Self::mirror) since has turned it.
     ///
     /// # Panics
     /// If `m > n` or `n > max_degree()`.
@@ -154,7 +196,8 @@ impl Legendre {
         tables::legendre_entry(self.nmax, &self.p, n, m)
     }
 
-    /// `∂P̄nm/∂φ` from the last [`compute_with_derivative`](Self::compute_with_derivative).
+    /// `∂P̄nm/∂φ` from the last [`compute_with_derivative`](Self::compute_with_derivative), as each [`mirror`](Self::mirror) since has
+    /// turned it.
     ///
     /// # Panics
     /// If `m > n`, `n > max_degree()`, or no derivative has been computed since the table was made or [grew](Self::grow).

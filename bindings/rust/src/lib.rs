@@ -27,8 +27,9 @@
 //! # Added
 //!
 //! [`Coefficients::partials_along`] and [`Coefficients::second_partials_along`] take many points at once, [`Legendre::grow`] carries
-//! a table on to a higher degree, [`slepian::Nodes`] keeps the nodes of a region for several calls, [`model_file`] keeps a field in a
-//! file with every bit of it, [`Coefficients::date`] is the day that a field is of, and [`Refusal`] says why a call was refused.
+//! a table on to a higher degree, [`Legendre::mirror`] makes it that of the latitude −φ, [`slepian::Nodes`] keeps the nodes of a region
+//! for several calls, [`model_file`] keeps a field in a file with every bit of it, [`Coefficients::date`] is the day that a field is of,
+//! and [`Refusal`] says why a call was refused.
 //! [`linalg::Convergence`] tells how a solver ended: [`linalg::try_symmetric_eigen_with`], [`linalg::try_householder_ql_with`],
 //! [`slepian::try_polar_cap_with`] and [`slepian::try_region_with`] answer it beside what their twins answer.
 //!

@@ -75,6 +75,7 @@ fn tables_rules_and_matrices() {
     let mut leg = Legendre::new(20);
     assert_eq!(again(|| leg.compute(0.3)), 0);
     assert_eq!(again(|| leg.compute_with_derivative(-0.3)), 0);
+    assert_eq!(again(|| leg.mirror()), 0);
     assert_eq!(again(|| leg.grow(20)), 0);
     assert_eq!(again(|| leg.try_grow(2701)), 0);
     for _ in 0..20 {

@@ -1,6 +1,7 @@
 //! The crate `coefficients` against the oracle's `Coefficients`: what is written, what is left alone, and document 01's refusals.
 
 pub mod bench;
+mod cuts;
 pub mod fields;
 pub mod replay;
 
@@ -10,11 +11,11 @@ use crate::cases::Cases;
 use crate::entries::*;
 use crate::functional::{NO_FUNCTIONALS, WATER_HEIGHT, functional};
 use crate::guarded::Guarded;
-use crate::refusal::{BEYOND, Checks, NO_FUNCTIONAL, answered, fault, pairs};
+use crate::refusal::{Checks, NO_FUNCTIONAL, answered, fault, pairs};
 use crate::sizes::{beside, table};
 use crate::table_entry::{entry, places};
 use crate::tally::{Report, Tally, shown};
-use fields::{COUNT, LARGE, Plan, field};
+use fields::{COUNT, Plan};
 
 pub fn compare(report: &mut Report) {
     report.call("coefficients.zeros", |tally, cases| {
@@ -25,7 +26,8 @@ pub fn compare(report: &mut Report) {
         let plan = Plan { count: COUNT / 4, ..Plan::new(2, |n| vec![table(n); 2]) };
         plan.carry_out(cases, |cases, field, nmax, lengths| entries(tally, cases, field, nmax, lengths));
     });
-    report.call("coefficients.truncated", truncations);
+    report.call("coefficients.truncated", cuts::once);
+    report.call("coefficients.cut twice", cuts::twice);
     report.call("coefficients.rescaled", |tally, cases| {
         let plan = Plan::new(2, |n| vec![table(n); 4]);
         plan.carry_out(cases, |cases, field, nmax, lengths| rescalings(tally, cases, field, nmax, lengths));
@@ -80,56 +82,6 @@ fn set(tally: &mut Tally, field: &Coefficients, nmax: usize, lengths: &[usize], 
         .or_else(|| c.fault_from("c", place, &[new.0][..written]))
         .or_else(|| s.fault_from("s", place, &[new.1][..written]));
     tally.call(fault, || format!("set({n}, {m}), N {nmax}, lengths {lengths:?}, {}, {}", shown(new.0), shown(new.1)));
-}
-
-/// Cuts below, at and above N, each with its own lengths of the answer.
-fn truncations(tally: &mut Tally, cases: &mut Cases) {
-    let cuts: [fn(usize) -> usize; 8] = [|_| 0, |n| n.saturating_sub(1), |n| n, |n| n + 1, |_| 2700, |_| 2701, |_| usize::MAX, |n| n / 2];
-    for (i, cut) in cuts.into_iter().enumerate() {
-        let stated = |n: usize| [vec![table(n); 2], vec![table(cut(n).min(n)); 2]].concat();
-        let large = if i == 1 { &LARGE } else { &LARGE[..3] };
-        // The cut belongs to the field, whatever N the call is given.
-        Plan { count: COUNT / 8, large, ..Plan::new(2, stated) }.carry_out(cases, |_, field, nmax, lengths| {
-            truncated(tally, field, nmax, lengths, cut(field.max_degree()));
-            // N and the cut both too large: N alone is refused.
-            if BEYOND.contains(&nmax) {
-                truncated(tally, field, nmax, lengths, nmax);
-            }
-        });
-    }
-    // Every cut of every small field.
-    for _ in cases.times(COUNT / 100) {
-        let nmax = cases.below(41) as usize;
-        let field = field(cases, nmax);
-        for cut in 0..=nmax + 1 {
-            let room = table(cut.min(nmax));
-            let lengths = [table(nmax), table(nmax), room + cases.below(2) as usize, room + cases.below(2) as usize];
-            truncated(tally, &field, nmax, &lengths, cut);
-        }
-    }
-}
-
-/// The degree kept, and the front part of both lists.
-fn truncated(tally: &mut Tally, field: &Coefficients, nmax: usize, lengths: &[usize], cut: usize) {
-    let (mut c, mut s) = lists(field, lengths);
-    let (mut out_c, mut out_s, mut degree) = (Guarded::marked(lengths[2]), Guarded::marked(lengths[3]), Guarded::<usize>::marked(1));
-    let (given, asked) = (beside(&lengths[..2], pairs(nmax)), beside(&lengths[2..], pairs(cut.min(nmax))));
-    let due = Checks { degree: nmax, inputs: &given, outputs: &asked, ..Checks::default() }.due();
-    let ours = unsafe {
-        let (c, s) = ((c.pointer(), c.len()), (s.pointer(), s.len()));
-        let (oc, os) = ((out_c.pointer(), out_c.len()), (out_s.pointer(), out_s.len()));
-        geopotential_truncated(nmax, c.0, c.1, s.0, s.1, cut, oc.0, oc.1, os.0, os.1, degree.pointer())
-    };
-    let answer = answered(due, || field.truncated(cut));
-    let kept = answer.as_ref().map(Coefficients::max_degree);
-    let answer = answer.map_or((vec![], vec![]), |field| (field.c, field.s));
-    let fault = fault(ours, due)
-        .or_else(|| degree.fault("degree", kept.as_slice()))
-        .or_else(|| out_c.fault("out c", &answer.0))
-        .or_else(|| out_s.fault("out s", &answer.1))
-        .or_else(|| c.fault("c", &[]))
-        .or_else(|| s.fault("s", &[]));
-    tally.call(fault, || format!("truncated to {cut}, N {nmax}, lengths {lengths:?}"));
 }
 
 /// To a gm and a radius like the field's, or to any.

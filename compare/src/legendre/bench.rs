@@ -1,5 +1,6 @@
 //! Times of the crate `legendre`. `Legendre::new` allocates its tables, ours writes to lists at hand; a second line has the
-//! published loops on lists at hand. The Rust cannot let tables grow; its lines have the published formulas on the new row, or whole tables.
+//! published loops on lists at hand. The Rust cannot let tables grow; its lines have the published formulas on the new row, or whole tables. Nor can it
+//! mirror them; its lines work them out anew.
 
 use oracle::standins::tricomi;
 use oracle::{Legendre, gauss_legendre};
@@ -12,6 +13,7 @@ use crate::timing::{allocated, race, repeat};
 pub fn bench() {
     for (nmax, calls) in [(96, 200), (2700, 1)] {
         degree(nmax, calls);
+        mirrors(nmax, calls);
     }
     growth();
     for (n, calls) in [(32, 200), (181, 20), (2701, 1)] {
@@ -66,6 +68,50 @@ fn degree(nmax: usize, calls: usize) {
         })
     };
     race(&format!("compute_with_derivative, N = {nmax}"), calls, ours, rust);
+}
+
+/// Tables at the negated sine: ours are mirrored in their lists. Where the name says so, ours stand on both sides: in the Rust's column the call that
+/// works them out anew.
+fn mirrors(nmax: usize, calls: usize) {
+    let length = table(nmax);
+    let (t, u) = pair(0.7);
+    let mut legendre = Legendre::new(nmax);
+    let (a, b) = (legendre.a.clone(), legendre.b.clone());
+    legendre.compute_with_derivative((t, u));
+    let (mut p, mut dp) = (legendre.p.clone(), legendre.dp.clone());
+    let (a, b, p, dp) = (a.as_ptr(), b.as_ptr(), p.as_mut_ptr(), dp.as_mut_ptr());
+    let (mut other_p, mut other_dp) = (vec![1.0; length], vec![1.0; length]);
+    let (other_p, other_dp) = (other_p.as_mut_ptr(), other_dp.as_mut_ptr());
+
+    let mirror = || repeat(calls, || unsafe { geopotential_legendre_mirror(nmax, p, length) });
+    let rust = || {
+        repeat(calls, || {
+            legendre.compute((-t, u));
+            0
+        })
+    };
+    race(&format!("mirror, N = {nmax}"), calls, mirror, rust);
+    let ours = || repeat(calls, || unsafe { geopotential_legendre_compute(nmax, -t, u, a, length, b, length, other_p, length) });
+    race(&format!("mirror, N = {nmax}, beside our compute"), calls, mirror, ours);
+
+    let both = || {
+        repeat(calls, || unsafe {
+            geopotential_legendre_mirror(nmax, p, length) | geopotential_legendre_mirror_derivative(nmax, dp, length)
+        })
+    };
+    let rust = || {
+        repeat(calls, || {
+            legendre.compute_with_derivative((-t, u));
+            0
+        })
+    };
+    race(&format!("mirror with derivative, N = {nmax}"), calls, both, rust);
+    let ours = || {
+        repeat(calls, || unsafe {
+            geopotential_legendre_compute_with_derivative(nmax, -t, u, a, length, b, length, other_p, length, other_dp, length)
+        })
+    };
+    race(&format!("mirror with derivative, N = {nmax}, beside ours"), calls, both, ours);
 }
 
 /// Tables that grow to degree 2700: by their last row alone, and from degree 0 in ten steps.

@@ -1,8 +1,12 @@
 //! The crate `legendre` against the oracle's `Legendre` and `gauss_legendre`: own tables and any tables, every kind of latitude, any guesses.
 
 pub mod bench;
+pub mod mirror_replay;
+mod mirrors;
 pub mod replay;
 mod tables;
+
+pub use mirrors::Mirror;
 
 use core::f64::consts::FRAC_PI_2;
 
@@ -29,6 +33,9 @@ pub fn compare(report: &mut Report) {
     report.call("legendre.fronts", tables::fronts);
     report.call("legendre.compute", |tally, cases| latitudes(tally, cases, 3, compute));
     report.call("legendre.with_derivative", |tally, cases| latitudes(tally, cases, 4, compute_with_derivative));
+    report.call("legendre.mirror", mirrors::lists);
+    report.call("legendre.mirror, twice", mirrors::twice);
+    report.call("legendre.mirror, -t", mirrors::laws);
     report.call("legendre.entry", entries);
     report.call("legendre.gauss_legendre", quadrature);
 }

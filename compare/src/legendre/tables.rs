@@ -47,7 +47,7 @@ impl Published {
 }
 
 /// So many numbers of any shape.
-fn any_numbers(cases: &mut Cases, count: usize) -> Vec<f64> {
+pub fn any_numbers(cases: &mut Cases, count: usize) -> Vec<f64> {
     (0..count).map(|_| cases.number()).collect()
 }
 

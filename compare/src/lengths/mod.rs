@@ -141,6 +141,13 @@ const TOLD: &[Told] = &[
         limits: DEGREE,
         due: tables::<4>,
     },
+    Told { name: "legendre_mirror", entry: One(geopotential_legendre_mirror_lengths), limits: DEGREE, due: tables::<1> },
+    Told {
+        name: "legendre_mirror_derivative",
+        entry: One(geopotential_legendre_mirror_derivative_lengths),
+        limits: DEGREE,
+        due: tables::<1>,
+    },
     Told { name: "legendre_entry", entry: One(geopotential_legendre_entry_lengths), limits: DEGREE, due: tables::<1> },
     Told {
         name: "gauss_legendre",

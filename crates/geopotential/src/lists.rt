@@ -154,7 +154,10 @@ pub extern "C" fn geopotential_legendre_mirror_lengths(nmax: usize, lengths: &mu
 }
 
 #[no_mangle]
-pub extern "C" fn geopotential_legendre_mirror_derivative_lengths(nmax: usize, lengths: &mut [usize]) -> u32
+pub extern "C" fn geopotential_legendre_mirror_derivative_lengths(
+    nmax: usize,
+    lengths: &mut [usize],
+) -> u32
     ensures { λ x. ⌜ x ≡ answerNumber (lengthsCheck (degreeSize nmax) (tablesLengths 1 nmax) (length (now (lengths .entry)))) ⌝ }
     ensures { λ x. ⌜ now (lengths .exit) ≡ lengthsAfter (degreeSize nmax) (tablesLengths 1 nmax) (now (lengths .entry)) ⌝ }
 {

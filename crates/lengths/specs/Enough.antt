@@ -35,7 +35,7 @@ use Rattle.model_file.specs.Format.{headSize, fileSize, dateAt, headOf, refuseR
 use Rattle.model_file.specs.Answers.{readAnswer, writeAnswer, write-done}
 use Rattle.model_file.specs.RoundTrip.{accepted, parse-table, parse-length, length-render}
 use Rattle.model_file.specs.Truncation.{head-front}
-use Rattle.legendre.specs.Checks.{computeCheck, compute-done}
+use Rattle.legendre.specs.Checks.{mirrorCheck, mirror-done, computeCheck, compute-done}
 use Rattle.quadrature.specs.Gauss.{guessCount, gaussCheck}
 use Rattle.quadrature.specs.GaussLaws.{gauss-done}
 use Rattle.synthesis.specs.Grid.{workSize, gridCheck}
@@ -109,7 +109,12 @@ module _ (N : ℕ) (ok : Done ≡ degreeSize N) where
   unfolding tablesLengths
   entry-enough table n m e = let p : length table ≡ tableSize N = cc in entry-at N table n m top p refl
 
-  -- `set`: the same
+  -- `legendre_mirror`, `legendre_mirror_derivative`
+  pub mirror-enough : (table : ℕ) → table ∷ [] ≡ tablesLengths 1 N → Done ≡ mirrorCheck N table
+  unfolding tablesLengths
+  mirror-enough table e = let p : table ≡ tableSize N = cc in mirror-done N table top p
+
+  -- `set`: a place outside the tables is still refused
   pub set-enough : (c s n m : ℕ) → c ∷ s ∷ [] ≡ tablesLengths 2 N → placeCheck (placeOf N n m) ≡ setCheck N c s n m
   unfolding tablesLengths setCheck
   set-enough c s n m e =

@@ -24,7 +24,7 @@ use Rattle.coefficients.specs.declared.Date.{Date}
 use Rattle.model_file.specs.Format.{headSize, dateAt, headOf, parse, fault}
 use Rattle.model_file.specs.Answers.{writeAnswer, write-size, refused-by-head}
 use Rattle.model_file.specs.Truncation.{head-front}
-use Rattle.legendre.specs.Checks.{computeCheck, compute-tables}
+use Rattle.legendre.specs.Checks.{mirrorCheck, mirror-size, computeCheck, compute-tables}
 use Rattle.quadrature.specs.Gauss.{gaussCheck}
 use Rattle.quadrature.specs.GaussLaws.{gauss-size}
 use Rattle.synthesis.specs.Grid.{gridCheck}
@@ -74,6 +74,10 @@ module _ (N : ℕ) (bad : Refused Size ≡ degreeSize N) where
   -- `coefficient_c`, `coefficient_s`, `legendre_entry`
   pub entry-limit : (table : List Float) (n m : ℕ) → NoValue Size ≡ entryAnswer N table n m
   entry-limit table n m = entry-size N table n m large
+
+  -- `legendre_mirror`, `legendre_mirror_derivative`
+  pub mirror-limit : (table : ℕ) → Refused Size ≡ mirrorCheck N table
+  mirror-limit table = mirror-size N table large
 
   pub set-limit : (c s n m : ℕ) → Refused Size ≡ setCheck N c s n m
   unfolding setCheck

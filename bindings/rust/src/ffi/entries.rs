@@ -133,6 +133,8 @@ unsafe extern "C" {
         dp: *mut f64,
         dp_len: usize,
     ) -> u32;
+    pub fn geopotential_legendre_mirror(nmax: usize, table: *mut f64, table_len: usize) -> u32;
+    pub fn geopotential_legendre_mirror_derivative(nmax: usize, table: *mut f64, table_len: usize) -> u32;
     pub fn geopotential_legendre_entry(nmax: usize, table: *const f64, table_len: usize, n: usize, m: usize, value: *mut f64) -> u32;
     pub fn geopotential_gauss_legendre(
         n: usize,

@@ -2,6 +2,7 @@
 use Rattle.storage.specs.Triangle.{row-start-monotone}
 use native.Mathlib.Nat.{min-le-right}
 use Rattle.storage.specs.Filled.{filled-to}
+use Rattle.coefficients.specs.Cuts.{cut-promise}
 use Rattle.coefficients.specs.Model.{model-refused, model-made}
 use Rattle.storage.specs.Answers.{size-is}
 use Rattle.storage.specs.Checks.{outputs-passed}
@@ -35,7 +36,11 @@ copy-requires-2 c κs =
     (omega arith, omega arith)
 
 returns : tie.Need-returns
-returns c = rw (← c .before .before .before .before .smaller .ensures) (model-refused _ _ (sym (c .before .e .given .1) ∙ c .before .before .before .outputs-check .ensures), (refl, refl))
+returns c =
+    let a = c .before .before .before .before .before .before .before .before .before .args in
+    let refused = sym (c .before .e .given .1) ∙ c .before .before .before .outputs-check .ensures in
+    cut-promise (a .self) (a .c .now) (a .s .now) (a .cut) (a .outc .now) (a .outs .now) (
+    record { answers = rw (← c .before .before .before .before .smaller .ensures) (model-refused _ _ refused); leaves-c = refl; leaves-s = refl })
 
 same-length : tie.Need-same-length
 same-length c = c .before .before .before .before .before .before .copy .ensures .long
@@ -51,7 +56,12 @@ returns-2 c =
     let ok = sym (c .before .before .before .before .before .before .before .before .before .enum-told .given .1) ∙ c .before .before .before .before .before .before .before .before .before .before .before .outputs-check .ensures in
     let o = outputs-passed _ _ _ _ _ _ ok in
     let z = c .before .before .before .before .before .before .before .before .table-size .ensures ∙ size-is _ (omega arith) in
-    rw (← m) (model-made _ ok, (filled-to (c .before .before .before .before .before .before .copy .ensures) z .is, filled-to (c .before .before .copy2 .ensures) z .is))
+    cut-promise (a .self) (a .c .now) (a .s .now) (a .cut) (a .outc .now) (a .outs .now) (
+    record {
+      answers = rw (← m) (model-made _ ok);
+      leaves-c = rw (← m) (filled-to (c .before .before .before .before .before .before .copy .ensures) z .is);
+      leaves-s = rw (← m) (filled-to (c .before .before .copy2 .ensures) z .is);
+    })
 
 pub truncated-spec : {M : Type 1} → statement M
 truncated-spec =
