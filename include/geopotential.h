@@ -142,8 +142,7 @@ uint32_t geopotential_legendre_compute_with_derivative(size_t nmax, double t, do
                                                        size_t b_len, double *p, size_t p_len, double *dp, size_t dp_len);
 /* Mirrors a table at the equator, in its own list: each entry with n-m odd becomes its negative, the others stay. The table of legendre_compute at
  * t, u becomes that at -t, u with the same a and b: equal entry by entry, where zeros of either sign count as equal and NaN as NaN, for every t and
- * u and all a, b, NaN and infinities among them. A table of second derivatives by latitude is mirrored by this entry too. table: exactly T, since it
- * is read. Refused by 1, 2 in this order. */
+ * u and all a, b, NaN and infinities among them. table: exactly T, since it is read. Refused by 1, 2 in this order. */
 uint32_t geopotential_legendre_mirror(size_t nmax, double *table, size_t table_len);
 /* The same for the derivatives dp of legendre_compute_with_derivative: each entry with n-m even becomes its negative. Refused by 1, 2 in this
  * order. */

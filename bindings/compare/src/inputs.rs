@@ -100,6 +100,11 @@ pub fn fault(name: &str, ours: &[f64], oracle: &[f64]) -> Option<String> {
     Some(format!("{name}[{at}]: ours {}, due {}", shown(ours[at]), shown(oracle[at])))
 }
 
+/// Every zero as +0.
+pub fn unsigned(numbers: &[f64]) -> Vec<f64> {
+    numbers.iter().map(|&x| if x == 0.0 { 0.0 } else { x }).collect()
+}
+
 /// What is wrong with a field's head and lists. The oracle's fields have no date: the one due is said apart.
 pub fn field_fault(ours: &geopotential::Coefficients, oracle: &oracle::Coefficients, date: Option<i32>) -> Option<String> {
     let nmax = oracle.max_degree();

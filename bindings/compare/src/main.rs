@@ -1,5 +1,5 @@
-//! Holds the Rust bindings, which take radians, against the oracle lent the same sines and cosines, bit for bit; then against the
-//! published crate itself, its files unchanged, where differences are told and not asserted.
+//! Holds the Rust bindings, which take radians, against the oracle lent the same sines and cosines, bit for bit, but that a mirrored zero
+//! may have either sign; then against the published crate itself, its files unchanged, where differences are told and not asserted.
 
 mod fields;
 mod inputs;
@@ -44,7 +44,7 @@ fn main() -> ExitCode {
         eprintln!("{USAGE}");
         return ExitCode::from(2);
     };
-    println!("seed {seed:#x}; against the oracle, every bit");
+    println!("seed {seed:#x}; against the oracle, every bit but the signs of mirrored zeros");
     let mut report = Report::new(seed, divisor);
     models::compare(&mut report);
     tables::compare(&mut report);

@@ -13,6 +13,7 @@ pub fn compare(report: &mut Report) {
     report.call("factor", factor);
     report.call("zeros, set, c, s", made);
     report.call("truncated", |tally, cases| fields(tally, cases, truncated));
+    report.call("truncated twice", |tally, cases| fields(tally, cases, truncated_twice));
     report.call("rescaled", |tally, cases| fields(tally, cases, rescaled));
     report.call("degree_variances", |tally, cases| fields(tally, cases, degree_variances));
     report.call("degree_amplitudes", |tally, cases| fields(tally, cases, degree_amplitudes));
@@ -49,10 +50,25 @@ fn factor(tally: &mut Tally, cases: &mut Cases) {
     }
 }
 
-fn truncated(cases: &mut Cases, field: &Field) -> Option<String> {
+/// A degree to cut a field at: below its own, at it or above.
+fn cut(cases: &mut Cases, field: &Field) -> usize {
     let nmax = field.oracle.max_degree();
-    let cut = [0, nmax / 2, nmax.saturating_sub(1), nmax, nmax + 1, usize::MAX][cases.below(6) as usize];
+    let any = cases.below(nmax as u64 + 1) as usize;
+    [0, nmax / 2, nmax.saturating_sub(1), nmax, nmax + 1, usize::MAX, any][cases.below(7) as usize]
+}
+
+fn truncated(cases: &mut Cases, field: &Field) -> Option<String> {
+    let cut = cut(cases, field);
     field_fault(&field.ours.truncated(cut), &field.oracle.truncated(cut), field.ours.date)
+}
+
+/// Our field cut twice: the oracle's cut twice, and the oracle's cut once, at the smaller degree.
+fn truncated_twice(cases: &mut Cases, field: &Field) -> Option<String> {
+    let [first, second] = [0; 2].map(|_| cut(cases, field));
+    let ours = field.ours.truncated(first).truncated(second);
+    let oracle = [field.oracle.truncated(first).truncated(second), field.oracle.truncated(first.min(second))];
+    let fault = oracle.iter().find_map(|oracle| field_fault(&ours, oracle, field.ours.date))?;
+    Some(format!("cuts {first}, {second}: {fault}"))
 }
 
 fn rescaled(cases: &mut Cases, field: &Field) -> Option<String> {

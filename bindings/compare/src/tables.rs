@@ -3,7 +3,7 @@
 use oracle::standins::tricomi;
 
 use crate::cases::Cases;
-use crate::inputs::{LARGE, angle, degrees, fault};
+use crate::inputs::{LARGE, angle, degrees, fault, unsigned};
 use crate::lent::pair;
 use crate::tally::{Report, Tally, shown};
 
@@ -15,6 +15,10 @@ pub fn compare(report: &mut Report) {
     report.call("Legendre, p and dp", |tally, cases| tables(tally, cases, made, table_with_derivative));
     report.call("Legendre grown, p", |tally, cases| tables(tally, cases, grown, table));
     report.call("Legendre grown, p and dp", |tally, cases| tables(tally, cases, grown, table_with_derivative));
+    report.call("mirror, p", |tally, cases| tables(tally, cases, made, mirrored));
+    report.call("mirror, p and dp", |tally, cases| tables(tally, cases, made, mirrored_with_derivative));
+    report.call("mirror, grown, p", |tally, cases| tables(tally, cases, grown, mirrored));
+    report.call("mirror, grown, p and dp", |tally, cases| tables(tally, cases, grown, mirrored_with_derivative));
     report.call("gauss_legendre", rules);
     report.call("gauss_grid", grids);
 }
@@ -29,7 +33,8 @@ fn made(_: &mut Cases, nmax: usize) -> geopotential::Legendre {
     geopotential::Legendre::new(nmax)
 }
 
-/// A table of a lower degree that grows in steps, each by one degree or by several; some meet the numbers of a latitude.
+/// A table of a lower degree that grows in steps, each by one degree or by several; some meet the numbers of a latitude, or those
+/// mirrored.
 fn grown(cases: &mut Cases, nmax: usize) -> geopotential::Legendre {
     let mut table = geopotential::Legendre::new(cases.below(nmax as u64 + 1) as usize);
     while table.max_degree() < nmax {
@@ -37,6 +42,9 @@ fn grown(cases: &mut Cases, nmax: usize) -> geopotential::Legendre {
             0 => table.compute(angle(cases)),
             1 => table.compute_with_derivative(angle(cases)),
             _ => {}
+        }
+        if cases.below(2) == 0 {
+            table.mirror();
         }
         let left = (nmax - table.max_degree()) as u64;
         let step = if cases.below(2) == 0 { 1 } else { 1 + cases.below(left) };
@@ -59,14 +67,36 @@ fn tables(tally: &mut Tally, cases: &mut Cases, table: Table, call: Tables) {
 fn table(ours: &mut geopotential::Legendre, oracle: &mut oracle::Legendre, lat: f64) -> Option<String> {
     ours.compute(lat);
     oracle.compute(pair(lat));
-    fault("p", &entries(ours.max_degree(), |n, m| ours.p(n, m)), &oracle.p)
+    fault("p", &values(ours), &oracle.p)
 }
 
 fn table_with_derivative(ours: &mut geopotential::Legendre, oracle: &mut oracle::Legendre, lat: f64) -> Option<String> {
     ours.compute_with_derivative(lat);
     oracle.compute_with_derivative(pair(lat));
-    fault("p", &entries(ours.max_degree(), |n, m| ours.p(n, m)), &oracle.p)
-        .or_else(|| fault("dp", &entries(ours.max_degree(), |n, m| ours.dp(n, m)), &oracle.dp))
+    fault("p", &values(ours), &oracle.p).or_else(|| fault("dp", &derivatives(ours), &oracle.dp))
+}
+
+/// Our table at a latitude, mirrored, and the oracle's at the negated latitude: equal numbers, whose zeros may have another sign.
+fn mirrored(ours: &mut geopotential::Legendre, oracle: &mut oracle::Legendre, lat: f64) -> Option<String> {
+    ours.compute(lat);
+    ours.mirror();
+    oracle.compute(pair(-lat));
+    fault("p", &unsigned(&values(ours)), &unsigned(&oracle.p))
+}
+
+fn mirrored_with_derivative(ours: &mut geopotential::Legendre, oracle: &mut oracle::Legendre, lat: f64) -> Option<String> {
+    ours.compute_with_derivative(lat);
+    ours.mirror();
+    oracle.compute_with_derivative(pair(-lat));
+    fault("p", &unsigned(&values(ours)), &unsigned(&oracle.p)).or_else(|| fault("dp", &unsigned(&derivatives(ours)), &unsigned(&oracle.dp)))
+}
+
+fn values(table: &geopotential::Legendre) -> Vec<f64> {
+    entries(table.max_degree(), |n, m| table.p(n, m))
+}
+
+fn derivatives(table: &geopotential::Legendre) -> Vec<f64> {
+    entries(table.max_degree(), |n, m| table.dp(n, m))
 }
 
 /// The entries of a table along its storage.

@@ -3,11 +3,14 @@
 //! sum of a grid starts at +0.0, so a zero may have another sign, and a tensor's tan is t/u, which has a part in its entries ee and
 //! ne. Solver and caps have another `hypot` and are left to the oracle.
 
+use geopotential::Legendre;
+
 use crate::cases::Cases;
-use crate::inputs::{angles, fault};
+use crate::inputs::{angles, fault, unsigned};
 use crate::tally::{Report, Tally};
 
 /// What the program is run with.
+#[derive(Clone)]
 struct Input {
     nmax: usize,
     gm: f64,
@@ -17,6 +20,7 @@ struct Input {
     love: Vec<f64>,
     r: f64,
     cut: usize,
+    again: usize,
     lats: Vec<f64>,
     lons: Vec<f64>,
     values: Vec<f64>,
@@ -30,8 +34,13 @@ impl Input {
         let (c, s, love, values) = (numbers(pairs), numbers(pairs), numbers(nmax + 1), numbers((nmax + 1) * (2 * nmax + 2)));
         let [gm, radius] = [0; 2].map(|_| if strange { cases.number() } else { 1.0 + cases.fraction() });
         let (rows, columns) = (cases.below(5) as usize, cases.below(10) as usize);
-        let (cut, r) = (cases.below(50) as usize, radius * (1.0 + 0.1 * cases.fraction()));
-        Input { nmax, gm, radius, c, s, love, r, cut, lats: angles(cases, rows), lons: angles(cases, columns), values }
+        let ([cut, again], r) = ([0; 2].map(|_| cases.below(50) as usize), radius * (1.0 + 0.1 * cases.fraction()));
+        Input { nmax, gm, radius, c, s, love, r, cut, again, lats: angles(cases, rows), lons: angles(cases, columns), values }
+    }
+
+    /// The latitudes negated, all else as it is.
+    fn negated(&self) -> Self {
+        Input { lats: self.lats.iter().map(|lat| -lat).collect(), ..self.clone() }
     }
 }
 
@@ -40,7 +49,7 @@ macro_rules! program {
     ($name:ident, $library:ident) => {
         mod $name {
             use $library::slepian::{basin_average, cap, concentration_matrix};
-            use $library::{Coefficients, Functional, Legendre, Partials, SecondPartials, gauss_grid, gauss_legendre};
+            use $library::{Coefficients, Functional, Legendre, Partials, SecondPartials, TideSystem, gauss_grid, gauss_legendre};
 
             use super::Input;
 
@@ -75,6 +84,14 @@ macro_rules! program {
                 field.degree_variances().into_iter().chain(amplitudes).chain(changed.iter().flat_map(numbers)).collect()
             }
 
+            /// A field after one cut or several: its tide system and its numbers.
+            pub fn truncated(input: &Input, cuts: &[usize]) -> Vec<f64> {
+                let mut field = field(input);
+                field.tide_system = TideSystem::ZeroTide;
+                let field = cuts.iter().fold(field, |field, &cut| field.truncated(cut));
+                [f64::from(field.tide_system as u8)].into_iter().chain(numbers(&field)).collect()
+            }
+
             /// `==` of a field with its copy, with the field cut, with the field rescaled to its own head, and of two that are newly made.
             pub fn equality(input: &Input) -> Vec<f64> {
                 let field = field(input);
@@ -84,15 +101,18 @@ macro_rules! program {
             }
 
             pub fn legendre(input: &Input) -> Vec<f64> {
-                entries(Legendre::new(input.nmax), input)
+                entries(Legendre::new(input.nmax), input, |_| {})
             }
 
-            pub fn entries(mut leg: Legendre, input: &Input) -> Vec<f64> {
+            /// The entries at each latitude, after `change`.
+            pub fn entries(mut leg: Legendre, input: &Input, change: fn(&mut Legendre)) -> Vec<f64> {
                 let mut out = Vec::new();
                 for &lat in &input.lats {
                     leg.compute(lat);
+                    change(&mut leg);
                     out.push(leg.p(input.nmax, input.nmax / 2));
                     leg.compute_with_derivative(lat);
+                    change(&mut leg);
                     (0..=input.nmax).for_each(|n| (0..=n).for_each(|m| out.extend([leg.p(n, m), leg.dp(n, m)])));
                 }
                 out
@@ -159,11 +179,25 @@ macro_rules! program {
 program!(ours, geopotential);
 program!(theirs, published);
 
-/// The part `legendre` with a table that grew degree by degree, which the published one can't.
-fn grown(input: &Input) -> Vec<f64> {
-    let mut leg = geopotential::Legendre::new(input.cut.min(input.nmax));
+/// A table that grew degree by degree, which the published one can't.
+fn grown(input: &Input) -> Legendre {
+    let mut leg = Legendre::new(input.cut.min(input.nmax));
     (input.cut..=input.nmax).for_each(|nmax| leg.grow(nmax));
-    ours::entries(leg, input)
+    leg
+}
+
+/// The part `legendre` at the negated latitudes by a table that is mirrored, which the published one can't be; zeros unsigned.
+fn mirrored(leg: Legendre, input: &Input) -> Vec<f64> {
+    unsigned(&ours::entries(leg, input, Legendre::mirror))
+}
+
+fn negated(input: &Input) -> Vec<f64> {
+    unsigned(&theirs::legendre(&input.negated()))
+}
+
+/// Our field cut twice.
+fn cut_twice(input: &Input) -> Vec<f64> {
+    ours::truncated(input, &[input.cut, input.again])
 }
 
 type Program = fn(&Input) -> Vec<f64>;
@@ -172,12 +206,16 @@ type Program = fn(&Input) -> Vec<f64>;
 const PARTS: &[(&str, Program, Program)] = &[
     ("factor", ours::factor, theirs::factor),
     ("coefficients", ours::coefficients, theirs::coefficients),
+    ("truncated twice", cut_twice, |input| theirs::truncated(input, &[input.cut, input.again])),
+    ("truncated twice, or once", cut_twice, |input| theirs::truncated(input, &[input.cut.min(input.again)])),
     ("equality", ours::equality, theirs::equality),
     ("legendre", ours::legendre, theirs::legendre),
-    ("legendre, grown", grown, theirs::legendre),
+    ("legendre, grown", |input| ours::entries(grown(input), input, |_| {}), theirs::legendre),
+    ("legendre, mirrored", |input| mirrored(Legendre::new(input.nmax), input), negated),
+    ("legendre grown, mirrored", |input| mirrored(grown(input), input), negated),
     ("gauss rules, grids", ours::rules, theirs::rules),
     ("grid", ours::grid, theirs::grid),
-    ("grid, zeros unsigned", |input| unsigned(ours::grid(input)), |input| unsigned(theirs::grid(input))),
+    ("grid, zeros unsigned", |input| unsigned(&ours::grid(input)), |input| unsigned(&theirs::grid(input))),
     ("partials", ours::partials, theirs::partials),
     ("second_partials", ours::second_partials, theirs::second_partials),
     ("tensor, without tan", |input| without_tan(ours::tensor(input)), |input| without_tan(theirs::tensor(input))),
@@ -185,11 +223,6 @@ const PARTS: &[(&str, Program, Program)] = &[
     ("basin_average", ours::average, theirs::average),
     ("concentration_matrix", ours::matrix, theirs::matrix),
 ];
-
-/// Every zero as +0.
-fn unsigned(numbers: Vec<f64>) -> Vec<f64> {
-    numbers.into_iter().map(|x| if x == 0.0 { 0.0 } else { x }).collect()
-}
 
 /// Of each tensor's nine entries those that no tangent has a part in: nn, nu, eu, un, ue, uu.
 fn without_tan(numbers: Vec<f64>) -> Vec<f64> {

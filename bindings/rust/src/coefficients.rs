@@ -141,7 +141,8 @@ impl Coefficients {
         Ok(amplitudes)
     }
 
-    /// The field cut to degree `nmax` (or unchanged if it is already at or below it). Tide system and date are kept.
+    /// The field cut to degree `nmax` (or unchanged if it is already at or below it). Tide system and date are kept. Cutting at A and
+    /// then at B is cutting at the smaller: head, date and every bit.
     pub fn truncated(&self, nmax: usize) -> Coefficients {
         let [_, _, c, s] = or_panic(lengths::truncated(self.nmax, nmax));
         let mut out = Self::with_lists(self.gm, self.radius, self.nmax, c, s);

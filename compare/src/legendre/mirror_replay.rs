@@ -6,6 +6,7 @@ use oracle::Legendre;
 use super::mirrors::Mirror;
 use crate::constants::{array, number};
 use crate::lent::pair;
+use crate::refusals;
 use crate::sizes::table;
 
 /// Recursion coefficients, their degree, and a pair.
@@ -106,5 +107,5 @@ pub fn replay() -> String {
     let table = strange();
     let [values, derivatives] = [Mirror::Values, Mirror::Derivatives].map(|mirror| mirror.read(4, &table));
     list("any numbers, degree 4: before, after `mirror`, after `mirror_derivative`", "ANY", &[table, values, derivatives].concat());
-    text
+    text + &refusals::mirror::text()
 }

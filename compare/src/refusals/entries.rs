@@ -1,5 +1,5 @@
 //! What the C entries refuse by themselves: numbers that are no functional's, tides that are none, and lists of fixed lengths; and that of two lists the
-//! one refused is that of the table. The cases of `grow` and of the mirrors are all of them.
+//! one refused is that of the table. The cases of `grow` are all of them.
 
 use super::fields::{ANALYSIS, GRID};
 use super::files::{DATE, WRITE, WRITE_DATED, model};
@@ -123,10 +123,5 @@ pub fn replay() -> String {
     for call in [PARTIALS, SECOND_PARTIALS, SECOND_PARTIALS_ALONG] {
         text += &call.constants(WIDTH);
     }
-    text + &model_write()
-        + &model_read()
-        + &fixed("three", 3)
-        + &fixed("nine", 9)
-        + &super::grow::refusals(WIDTH)
-        + &super::mirror::refusals(WIDTH)
+    text + &model_write() + &model_read() + &fixed("three", 3) + &fixed("nine", 9) + &super::grow::refusals(WIDTH)
 }

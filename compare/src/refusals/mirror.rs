@@ -33,8 +33,8 @@ fn turned(mirror: Mirror, nmax: usize) -> u64 {
     100 * places.len() as u64 + places.last().map_or(0, |&last| last as u64 + 1)
 }
 
-/// The cases, so many columns each, and what is due of each by both calls.
-pub(super) fn refusals(width: usize) -> String {
+/// The cases, two columns each, and what is due of each by both calls.
+fn refusals() -> String {
     let cases = cases();
     let row = |case: &Case| case.sizes.iter().chain(&case.lengths).map(|&number| number as u64).collect();
     let due = |mirror, case: &Case| match MIRROR.due(case) {
@@ -43,7 +43,7 @@ pub(super) fn refusals(width: usize) -> String {
     };
     let dues = |mirror| cases.iter().map(|case| due(mirror, case)).collect::<Vec<_>>();
     let derivatives: Vec<String> = dues(Mirror::Derivatives).iter().flatten().map(u64::to_string).collect();
-    constants(MIRROR.name, width, &cases.iter().map(row).collect::<Vec<_>>(), &dues(Mirror::Values))
+    constants(MIRROR.name, 2, &cases.iter().map(row).collect::<Vec<_>>(), &dues(Mirror::Values))
         + &array("due of each by `mirror_derivative`", "LEGENDRE_MIRROR_DERIVATIVE_DUE", &derivatives)
 }
 
@@ -67,7 +67,7 @@ fn lengths(name: &str, nmax: usize, places: usize) -> String {
     array(&format!("what is told of a table of degree {nmax}, in a list of {places}"), &format!("MIRROR_LENGTHS{name}"), &due)
 }
 
-pub(super) fn text() -> String {
+pub fn text() -> String {
     let mut text = array("a list before `mirror` and `mirror_derivative`", "MIRROR_BEFORE", &numbers(&BEFORE));
     for mirror in [Mirror::Values, Mirror::Derivatives] {
         text += &values("", mirror, 2, 6);
@@ -75,5 +75,6 @@ pub(super) fn text() -> String {
         text += &values("_LONG", mirror, 2, 7);
         text += &values("_BEYOND", mirror, 2701, 6);
     }
-    text + &lengths("", 3, 2) + &lengths("_LARGE", 2700, 2) + &lengths("_BEYOND", 2701, 2) + &lengths("_SHORT", 3, 0)
+    text += &(lengths("", 3, 2) + &lengths("_LARGE", 2700, 2) + &lengths("_BEYOND", 2701, 2) + &lengths("_SHORT", 3, 0));
+    text + &refusals()
 }

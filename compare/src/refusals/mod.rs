@@ -5,7 +5,7 @@ pub mod entries;
 pub mod fields;
 pub mod files;
 mod grow;
-mod mirror;
+pub mod mirror;
 pub mod models;
 pub mod points;
 pub mod regions;

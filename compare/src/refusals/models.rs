@@ -102,7 +102,7 @@ fn models() -> String {
 pub fn replay() -> String {
     let mut text = title("Calls on models and tables", "refusals");
     CALLS.iter().chain([&GAUSS]).for_each(|call| text += &call.constants(WIDTH));
-    text += &(super::grow::refusals(WIDTH) + &super::mirror::refusals(WIDTH));
+    text += &super::grow::refusals(WIDTH);
     // An entry's value tells its place: the tables hold 1, 2, 3, ..
     text += &entries("entry", 1, |k| 100 + k + 1);
     // One place of each table.

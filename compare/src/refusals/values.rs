@@ -138,5 +138,5 @@ pub fn replay() -> String {
     text += &array("with a record of another kind at byte 20", "READ_KIND", &reading(&kind));
     text += &bytes("with a byte too many", "LONG", &long);
     text += &array("what is read of that", "READ_LONG", &reading(&long));
-    text + &lengths(&whole, &dated) + &super::tensors::text() + &super::grow::text() + &super::mirror::text()
+    text + &lengths(&whole, &dated) + &super::tensors::text() + &super::grow::text()
 }

@@ -50,6 +50,13 @@ fn show_derivatives(nmax: usize, words: &[u64], dp: &mut [f64])
     show(b"dP at -t ", dp, words, 2 + 7 * size);
 }
 
+fn show_both(nmax: usize, words: &[u64], p: &mut [f64], dp: &mut [f64])
+    requires { ⌜ 2 + 8 * length (now p) ≤ length (now words) ⌝ ∗ ⌜ 2 + 8 * length (now dp) ≤ length (now words) ⌝ }
+{
+    show_values(nmax, words, p);
+    show_derivatives(nmax, words, dp);
+}
+
 // One row of the answers, by four lists of so many numbers as a table has.
 fn show_row(nmax: usize, words: &[u64], a: &mut [f64], b: &mut [f64], p: &mut [f64], dp: &mut [f64])
     requires { ⌜ 2 + 8 * length (now p) ≤ length (now words) ⌝ ∗ ⌜ length (now a) ≡ length (now p) ⌝ }
@@ -61,8 +68,7 @@ fn show_row(nmax: usize, words: &[u64], a: &mut [f64], b: &mut [f64], p: &mut [f
     let t = number::number_of_bits(words[0]);
     let u = number::number_of_bits(words[1]);
     geopotential_legendre_compute_with_derivative(nmax, t, u, a, b, p, dp);
-    show_values(nmax, words, p);
-    show_derivatives(nmax, words, dp);
+    show_both(nmax, words, p, dp);
 }
 
 fn show_zero(words: &[u64; 10]) {

@@ -1,4 +1,4 @@
-// Lists that no latitude has: any numbers, second derivatives, which turn as P does, a table of many rows, refusals, and what is told of the lists.
+// Lists that are no table at a latitude: any numbers, second derivatives, which turn as P does, lists of other lengths, and what is told of a list.
 use crate::answers;
 use geopotential::lists::geopotential_legendre_mirror_derivative_lengths;
 use geopotential::lists::geopotential_legendre_mirror_lengths;
@@ -6,17 +6,22 @@ use geopotential::tables::geopotential_legendre_mirror;
 use geopotential::tables::geopotential_legendre_mirror_derivative;
 use replay_print::show;
 use replay_print::show_words;
+ghost use Prim.Native.Nat.{_+_, _≤_};
+ghost use lib.ListN.{length};
+
+// What stands in a list of lengths before a call.
+const MARK_LENGTH: usize = 1234;
 
 // Any numbers: before the calls, after `mirror`, after `mirror_derivative`.
 fn show_any() {
     let mut table = [0.0; 15];
     replay::load(&answers::ANY, 0, &mut table);
     geopotential_legendre_mirror(4, &mut table);
-    show(b"any numbers, legendre_mirror ", &table, &answers::ANY, 15);
+    show(b"any numbers mirrored ", &table, &answers::ANY, 15);
     replay::load(&answers::ANY, 0, &mut table);
     geopotential_legendre_mirror_derivative(4, &mut table);
     show(
-        b"any numbers, legendre_mirror_derivative ",
+        b"any numbers mirrored as derivatives ",
         &table,
         &answers::ANY,
         30,
@@ -36,7 +41,90 @@ fn show_second() {
     );
 }
 
+// A list and a degree: due are the number and the list afterwards.
+fn show_mirror(nmax: usize, table: &mut [f64], due: &[u64])
+    requires { ⌜ length (now table) ≤ 7 ⌝ ∗ ⌜ 1 + length (now table) ≤ length (now due) ⌝ }
+{
+    replay::load(&answers::MIRROR_BEFORE, 0, table);
+    let number = geopotential_legendre_mirror(nmax, table);
+    show_words(b"legendre_mirror, refusal ", &[number as u64], due, 0);
+    show(b"legendre_mirror, table ", table, due, 1);
+}
+
+fn show_mirror_derivative(nmax: usize, table: &mut [f64], due: &[u64])
+    requires { ⌜ length (now table) ≤ 7 ⌝ ∗ ⌜ 1 + length (now table) ≤ length (now due) ⌝ }
+{
+    replay::load(&answers::MIRROR_BEFORE, 0, table);
+    let number = geopotential_legendre_mirror_derivative(nmax, table);
+    show_words(
+        b"legendre_mirror_derivative, refusal ",
+        &[number as u64],
+        due,
+        0,
+    );
+    show(b"legendre_mirror_derivative, table ", table, due, 1);
+}
+
+// A table of degree 2, a number less, a number more, and a degree that is refused.
+fn show_sizes() {
+    let mut table = [0.0; 6];
+    let mut short = [0.0; 5];
+    let mut long = [0.0; 7];
+    show_mirror(2, &mut table, &answers::MIRROR);
+    show_mirror(2, &mut short, &answers::MIRROR_SHORT);
+    show_mirror(2, &mut long, &answers::MIRROR_LONG);
+    show_mirror(2701, &mut table, &answers::MIRROR_BEYOND);
+}
+
+fn show_sizes_derivative() {
+    let mut table = [0.0; 6];
+    let mut short = [0.0; 5];
+    let mut long = [0.0; 7];
+    show_mirror_derivative(2, &mut table, &answers::MIRROR_DERIVATIVE);
+    show_mirror_derivative(2, &mut short, &answers::MIRROR_DERIVATIVE_SHORT);
+    show_mirror_derivative(2, &mut long, &answers::MIRROR_DERIVATIVE_LONG);
+    show_mirror_derivative(2701, &mut table, &answers::MIRROR_DERIVATIVE_BEYOND);
+}
+
+// What is told of the list of both, with a place behind the length.
+fn show_told(nmax: usize, due: &[u64; 3]) {
+    let mut l = [MARK_LENGTH; 2];
+    let number = geopotential_legendre_mirror_lengths(nmax, &mut l);
+    let told = [number as u64, l[0] as u64, l[1] as u64];
+    show_words(b"legendre_mirror_lengths ", &told, due, 0);
+    l = [MARK_LENGTH; 2];
+    let other = geopotential_legendre_mirror_derivative_lengths(nmax, &mut l);
+    let also = [other as u64, l[0] as u64, l[1] as u64];
+    show_words(b"legendre_mirror_derivative_lengths ", &also, due, 0);
+}
+
+// With no place for it.
+fn show_told_short(l: &mut [usize]) {
+    let number = geopotential_legendre_mirror_lengths(3, l);
+    let other = geopotential_legendre_mirror_derivative_lengths(3, l);
+    show_words(
+        b"legendre_mirror_lengths, SPACE ",
+        &[number as u64],
+        &answers::MIRROR_LENGTHS_SHORT,
+        0,
+    );
+    show_words(
+        b"legendre_mirror_derivative_lengths, SPACE ",
+        &[other as u64],
+        &answers::MIRROR_LENGTHS_SHORT,
+        0,
+    );
+}
+
 pub fn show_lists() {
     show_any();
     show_second();
+    show_sizes();
+    show_sizes_derivative();
+    show_told(3, &answers::MIRROR_LENGTHS);
+    show_told(2700, &answers::MIRROR_LENGTHS_LARGE);
+    show_told(2701, &answers::MIRROR_LENGTHS_BEYOND);
+    let mut l = [MARK_LENGTH; 1];
+    let end = 0;
+    show_told_short(&mut l[..end]);
 }
