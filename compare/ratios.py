@@ -26,6 +26,8 @@ ROWS = [
     ("mirror N = 2700, beside our compute", "mirror, N = 2700, beside our compute", "ratio", 0.5),
     ("mirror with derivative N = 96", "mirror with derivative, N = 96", "ratio", 0.2),
     ("mirror with derivative N = 2700", "mirror with derivative, N = 2700", "ratio", 0.2),
+    ("mirror with derivative N = 96, beside ours", "mirror with derivative, N = 96, beside ours", "ratio", 0.2),
+    ("mirror with derivative N = 2700, beside ours", "mirror with derivative, N = 2700, beside ours", "ratio", 0.3),
     ("grid 181 x 361, N = 96", "grid 181 x 361, N = 96", "ratio", 0.75),
     ("grid, a row of 361, N = 2700, no tables", "grid, a row of 361, N = 2700, no tables", "ratio", 0.25),
     ("basin_average N = 96", "basin_average, N = 96", "ratio", 1.0),

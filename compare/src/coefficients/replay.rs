@@ -74,6 +74,9 @@ fn answers(example: Example) -> String {
     let truncated = field.truncated(2);
     list("c truncated at degree 2", "TRUNCATED_C", &truncated.c);
     list("s truncated at degree 2", "TRUNCATED_S", &truncated.s);
+    let again = truncated.truncated(1);
+    list("c of that, truncated at degree 1", "TRUNCATED_AGAIN_C", &again.c);
+    list("s of that", "TRUNCATED_AGAIN_S", &again.s);
     field.set(2, 1, SET.0, SET.1);
     list("c with one entry set", "SET_C", &field.c);
     list("s with one entry set", "SET_S", &field.s);

@@ -96,7 +96,7 @@ pub fn lists(tally: &mut Tally, cases: &mut Cases) {
     }
 }
 
-/// Mirrored twice, a list of any numbers has its bits again.
+/// Mirrored twice, a list of any numbers has them again, zeros with their signs.
 pub fn twice(tally: &mut Tally, cases: &mut Cases) {
     let mut one = |cases: &mut Cases, nmax: usize| {
         let content = any_numbers(cases, table(nmax));

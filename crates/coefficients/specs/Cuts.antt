@@ -2,26 +2,24 @@
 -- for every field and all cuts, above the field's degree and above 2700 too. Assumes nothing.
 use mathlib.Core.Path.{_≡_, refl, sym, ap, ap₂, _∙_, subst}
 use mathlib.Core.List.{List}
-use Prim.Native.Nat.{ℕ, _+_, _≤_, _<_, min}
+use Prim.Native.Nat.{ℕ, _+_, _≤_, min}
 use native.Mathlib.Nat.{zero-add}
 use native.Mathlib.Omega.{arith}
-use lib.ListN.{length, getD, take}
-use lib.Seq.{length-take-le, getD-take}
+use lib.ListN.{length, take}
+use lib.Seq.{getD-take}
 use lib.Ieee.{Float, nan}
 use Rattle.refusal.specs.Numbers.{after}
-use Rattle.refusal.specs.declared.Answer.{Answer}
 use Rattle.refusal.specs.declared.Answer.the-variants.{Done}
-use Rattle.refusal.specs.declared.Answer.the-variants.{Refused as NotDone}
 use Rattle.storage.specs.Answers.{sizeOf, size-is}
 use Rattle.storage.specs.Checks.{tablesCheck, spaceCheck, outputsCheck, tables-done, done-then, outputs-passed}
 use Rattle.storage.specs.Elements.{from, from-zero}
 use Rattle.storage.specs.Fill.{fill, fill-same}
-use Rattle.storage.specs.Filled.{filled, filled-in}
+use Rattle.storage.specs.Filled.{filled, filled-in, filled-length}
 use Rattle.storage.specs.Triangle.{tableSize, row-start-monotone}
 use Rattle.coefficients.specs.declared.Head.{Head}
 use Rattle.coefficients.specs.declared.Model.{Model}
 use Rattle.coefficients.specs.declared.Model.the-variants.{Made}
-use Rattle.coefficients.specs.Model.{outcome, modelOf}
+use Rattle.coefficients.specs.Model.{outcome, modelOf, made-of}
 use Rattle.coefficients.specs.Values.{cutHead}
 
 -- `truncated` at a cut, of the field with the head h and the lists c and s, with the lists x and y to write to, answers r and leaves x′ and y′: its
@@ -38,11 +36,7 @@ pub cut-promise : (h : Head) (c s : List Float) (cut : ℕ) (x y : List Float) {
     × (y′ ≡ after (outcome r) (fill 0 (from 0 s nan) (tableSize (min cut (h .nmax))) y) y))
 cut-promise h c s cut x y w = (w .answers, (w .leaves-c, w .leaves-s))
 
--- ---- a field that was made
-made-of : (a : Answer) (h k : Head) → Made k ≡ modelOf a h → (Done ≡ a) × (k ≡ h)
-made-of Done h k e = (refl, cc)
-made-of (NotDone f) h k e = absurd (let z : _≡_ {A = ℕ} 0 1 = cc in omega arith)
-
+-- ---- head, room and lists
 -- the head of a cut of a cut, its date with it
 pub head-cut : (h : Head) (A B : ℕ) → cutHead (cutHead h A) B ≡ cutHead h (min A B)
 head-cut h A B =
@@ -58,9 +52,7 @@ room-decides N clen slen top a b h = sym (done-then h refl)
 module _ (list out : List Float) {out′ : List Float} (n : ℕ) (top : n ≤ 2700) (wrote : out′ ≡ fill 0 (from 0 list nan) (tableSize n) out)
     (room : sizeOf n ≤ length out) where
   part-length : length (take (tableSize n) out′) ≡ tableSize n
-  part-length =
-      let long = filled 0 (from 0 list nan) (tableSize n) out wrote .long in
-      length-take-le (tableSize n) out′ (omega (arith, size-is n top, long, room))
+  part-length = filled-length (filled 0 (from 0 list nan) (tableSize n) out wrote) (omega (arith, size-is n top, room))
 
   part-copied : (j : ℕ) (v : List Float) → j ≤ n
       → fill 0 (from 0 (take (tableSize n) out′) nan) (tableSize j) v ≡ fill 0 (from 0 list nan) (tableSize j) v

@@ -87,3 +87,8 @@ model-refused e h g = ap (λ (x : Answer). modelOf x h) g
 
 pub model-made : {a : Answer} (h : Head) → Done ≡ a → Made h ≡ modelOf a h
 model-made h g = ap (λ (x : Answer). modelOf x h) g
+
+-- a field that was made: its checks are passed
+pub made-of : (a : Answer) (h k : Head) → Made k ≡ modelOf a h → (Done ≡ a) × (k ≡ h)
+made-of Done h k e = (refl, cc)
+made-of (NotDone f) h k e = absurd (let z : _≡_ {A = ℕ} 0 1 = cc in omega arith)

@@ -1,23 +1,19 @@
 -- The derivatives with the sine t negated and the cosine u kept: the first is the old one times (-1) ^ (n - m + 1), the second the old one times
 -- (-1) ^ (n - m), for all numbers t and u and all tables a and b. Assumes nothing.
-use mathlib.Core.Path.{_≡_, refl, sym, ap, _∙_, subst}
-use mathlib.Core.Bool.{Bool, true, false, not, cond}
+use mathlib.Core.Path.{_≡_, subst}
+use mathlib.Core.Bool.{Bool, true, false, cond}
 use Prim.Native.Nat.{ℕ, zero, suc, _+_, _-_, _%_, _≤_, _<_}
 use native.Mathlib.Omega.{arith}
-use lib.Dec.{T, ltb, eqb, ltb→lt, eqb→eq}
-use borrow.Author.Tests.{eq-eqb, ne-eqb, lt-ltb, le-ltb}
-use lib.Ieee.{Float, binary64, neg}
+use lib.Dec.{T, ltb, ltb→lt}
+use borrow.Author.Tests.{ne-eqb}
+use lib.Ieee.{Float, neg}
 use Rattle.number.specs.Float64.{_⊖_, _⊗_, zero64}
 use Rattle.number.specs.Parity.{isOdd, odd-same}
 use Rattle.number.specs.Turned.{Turned}
-use Rattle.number.specs.TurnedLaws.{turned-same, turned-mul, turned-sub}
+use Rattle.number.specs.TurnedLaws.{turned-sub, turned-left, turned-zero}
 use Rattle.recursion.specs.Recursion.{pCell}
-use Rattle.recursion.specs.Mirror.{zero-turned, p-mirror}
+use Rattle.recursion.specs.Mirror.{p-mirror}
 use Rattle.derivative.specs.Derivative.{half64, lowerOf, upperOf, zonalOf, dCell, dpCell, ddpCell}
-
-same-times : (s : Bool) {x y : Float} (f : Float) → Turned s x y → Turned s (f ⊗ x) (f ⊗ y)
-same-times true f h = turned-mul (turned-same f) h
-same-times false f h = turned-mul (turned-same f) h
 
 -- the derivative of a table whose entries turn as (-1) ^ (n - m + j): the neighbours of an entry turn the other way
 module _ (j : ℕ) (s s′ : ℕ → ℕ → Float) (each : (n m : ℕ) → m ≤ n → Turned (isOdd (n - m + j)) (s n m) (s′ n m)) where
@@ -26,10 +22,10 @@ module _ (j : ℕ) (s s′ : ℕ → ℕ → Float) (each : (n m : ℕ) → m �
 
   pub d-mirror : (n m : ℕ) → m ≤ n → Turned (isOdd (n - m + (j + 1))) (dCell s n m) (dCell s′ n m)
   unfolding dCell
-  d-mirror zero m h = zero-turned (isOdd (0 - m + (j + 1)))
+  d-mirror zero m h = turned-zero (isOdd (0 - m + (j + 1)))
   d-mirror (suc n) zero h =
       let k = suc n - 0 + (j + 1) in
-      rw (ne-eqb (suc n) 0 (λ e. omega arith)) (same-times (isOdd k) (zonalOf (suc n)) (neighbour (suc n) 1 k (omega arith) (omega arith)))
+      rw (ne-eqb (suc n) 0 (λ e. omega arith)) (turned-left (isOdd k) (zonalOf (suc n)) (neighbour (suc n) 1 k (omega arith) (omega arith)))
   d-mirror (suc n) (suc m) h =
       rw (ne-eqb (suc n) 0 (λ e. omega arith), ne-eqb (suc m) 0 (λ e. omega arith)) (by (ltb (suc m) (suc n)) (ltb→lt (suc m) (suc n)))
     where
@@ -37,7 +33,7 @@ module _ (j : ℕ) (s s′ : ℕ → ℕ → Float) (each : (n m : ℕ) → m �
       k = suc n - suc m + (j + 1)
 
       below : Turned (isOdd k) (lowerOf (suc n) (suc m) ⊗ s (suc n) (suc m - 1)) (lowerOf (suc n) (suc m) ⊗ s′ (suc n) (suc m - 1))
-      below = same-times (isOdd k) (lowerOf (suc n) (suc m)) (neighbour (suc n) (suc m - 1) k (omega arith) (omega arith))
+      below = turned-left (isOdd k) (lowerOf (suc n) (suc m)) (neighbour (suc n) (suc m - 1) k (omega arith) (omega arith))
 
       by : (z : Bool) → (T z → suc m < suc n)
           → Turned (isOdd k)
@@ -45,12 +41,13 @@ module _ (j : ℕ) (s s′ : ℕ → ℕ → Float) (each : (n m : ℕ) → m �
           (neg half64 ⊗ (lowerOf (suc n) (suc m) ⊗ s′ (suc n) (suc m - 1) ⊖ cond z (upperOf (suc n) (suc m) ⊗ s′ (suc n) (suc m + 1)) zero64))
       by true l =
           let inner = l tt in
-          same-times (isOdd k) (neg half64)
-          (turned-sub below (same-times (isOdd k) (upperOf (suc n) (suc m)) (neighbour (suc n) (suc m + 1) k (omega arith) (omega arith))))
-      by false l = same-times (isOdd k) (neg half64) (turned-sub below (zero-turned (isOdd k)))
+          turned-left (isOdd k) (neg half64)
+          (turned-sub below (turned-left (isOdd k) (upperOf (suc n) (suc m)) (neighbour (suc n) (suc m + 1) k (omega arith) (omega arith))))
+      by false l = turned-left (isOdd k) (neg half64) (turned-sub below (turned-zero (isOdd k)))
 
 module _ (a b : ℕ → Float) (t u : Float) where
-  p-each : (n m : ℕ) → m ≤ n → Turned (isOdd (n - m + 0)) (pCell a b t u n m) (pCell a b (neg t) u n m)
+  -- P itself, with a shift of 0
+  pub p-each : (n m : ℕ) → m ≤ n → Turned (isOdd (n - m + 0)) (pCell a b t u n m) (pCell a b (neg t) u n m)
   p-each n m h = subst (λ (z : Bool). Turned z (pCell a b t u n m) (pCell a b (neg t) u n m)) (odd-same (n - m) (n - m + 0) (omega arith)) (p-mirror a b t u n m)
 
   pub dp-mirror : (n m : ℕ) → m ≤ n → Turned (isOdd (n - m + 1)) (dpCell a b t u n m) (dpCell a b (neg t) u n m)

@@ -1,20 +1,19 @@
 -- Change request W6, on what calls hand back, whatever their lists held: with the sine t negated and the cosine u kept, entry (n, m) of the table is the
 -- old one times (-1) ^ (n - m), and of the first derivative times (-1) ^ (n - m + 1), for all numbers t and u and all tables a and b. Assumes nothing.
-use mathlib.Core.Path.{_≡_, refl, sym, ap, _∙_, subst, subst₂}
+use mathlib.Core.Path.{_≡_, sym, ap, _∙_, subst, subst₂}
 use mathlib.Core.Bool.{Bool, true, false, cond}
 use mathlib.Core.List.{List}
-use Prim.Native.Nat.{ℕ, zero, suc, _+_, _-_, _≤_, _<_}
+use Prim.Native.Nat.{ℕ, _+_, _-_, _≤_}
 use native.Mathlib.Nat.{zero-add, le-refl}
 use native.Mathlib.Omega.{arith}
 use lib.Dec.{T, eqb, ltb}
 use lib.ListN.{length, getD, take}
-use lib.Seq.{length-take-le, getD-take}
-use lib.Ieee.{Float, nan, binary64, fits, neg, ofBits}
+use lib.Seq.{getD-take}
+use lib.Ieee.{Float, nan, binary64, fits, neg}
 use lib.Ieee.Fits.{mul-fits}
 use lib.Ieee.Bits.{ofBits-fits}
 use Rattle.number.specs.Float64.{_⊖_, _⊗_, zero64}
-use Rattle.number.specs.Parity.{isOdd, odd-same, minusOneTo, minus-one-to}
-use Rattle.number.specs.Sign.{unitOf}
+use Rattle.number.specs.Parity.{isOdd, minusOneTo, minus-one-to}
 use Rattle.number.specs.Turned.{Turned, Alike, turnedIf, turned-alike, turned-times, turned-back, turned-twice}
 use Rattle.refusal.specs.Numbers.{after}
 use Rattle.refusal.specs.declared.Answer.{Answer}
@@ -23,12 +22,12 @@ use Rattle.storage.specs.Answers.{size-is}
 use Rattle.storage.specs.Checks.{outputsCheck, tables-done, Outputs, outputs-passed}
 use Rattle.storage.specs.Elements.{from}
 use Rattle.storage.specs.Fill.{fill, fill-same, fill-again}
-use Rattle.storage.specs.Filled.{filled, filled-standing}
-use Rattle.storage.specs.Triangle.{idx, tableSize, along, along-same, cells, rows-at, idx-within, idx-degree-order}
+use Rattle.storage.specs.Filled.{filled, filled-standing, filled-length}
+use Rattle.storage.specs.Triangle.{idx, tableSize, along, along-same, cells, cells-along, rows-at, idx-within}
 use Rattle.recursion.specs.Recursion.{pCell}
 use Rattle.recursion.specs.Mirror.{p-mirror}
 use Rattle.derivative.specs.Derivative.{half64, lowerOf, upperOf, zonalOf, dCell, dpCell}
-use Rattle.derivative.specs.Mirror.{dp-mirror}
+use Rattle.derivative.specs.Mirror.{p-each, dp-mirror}
 use Rattle.legendre.specs.Checks.{computeCheck, mirrorCheck, compute-done, compute-passed, mirror-done, mirror-passed}
 use Rattle.legendre.specs.Mirrored.{mirroredRow, mirrored}
 
@@ -76,9 +75,9 @@ module _ {f : ℕ → ℕ → Float} {N : ℕ} {d l : List Float} (w : Table f N
       let i = idx-within n m N h g in
       rows-at f n m nan (filled 0 (along f) (tableSize N) d (w .made)) h (sym (zero-add (idx n m))) i (omega (arith, i, w .room))
 
-  -- the table itself, which is what `mirror` takes
+  -- the table itself, which is what the mirrors take
   table-length : length (take (tableSize N) l) ≡ tableSize N
-  table-length = length-take-le (tableSize N) l (omega (arith, w .room, filled 0 (along f) (tableSize N) d (w .made) .long))
+  table-length = filled-length (filled 0 (along f) (tableSize N) d (w .made)) (w .room)
 
 -- of two of them the second has the entries of the first, each times (-1) to the power e
 module _ {f g : ℕ → ℕ → Float} {N : ℕ} {d l d′ l′ : List Float} (w : Table f N d l) (w′ : Table g N d′ l′) (e : ℕ → ℕ → ℕ)
@@ -90,9 +89,8 @@ module _ {f g : ℕ → ℕ → Float} {N : ℕ} {d l d′ l′ : List Float} (w
   entries-times fit =
       rw minus-one-to (turned-times (isOdd (e n m)) (subst (λ (x : Float). T (fits binary64 x)) (sym (entry-is w n m h k)) fit) entries-turned)
 
--- what the mirror makes of the first is the second
-module _ {f g : ℕ → ℕ → Float} {N : ℕ} {d l d′ l′ : List Float} (top : N ≤ 2700) (w : Table f N d l) (w′ : Table g N d′ l′) (shift : ℕ)
-    (each : (n m : ℕ) → m ≤ n → Turned (isOdd (n - m + shift)) (f n m) (g n m)) {r : Answer} {x : List Float}
+-- what the mirror makes of one of them, which it takes
+module _ {f : ℕ → ℕ → Float} {N : ℕ} {d l : List Float} (top : N ≤ 2700) (w : Table f N d l) (shift : ℕ) {r : Answer} {x : List Float}
     (by : Mirror shift N (take (tableSize N) l) r x) where
   mirror-answers : r ≡ Done
   mirror-answers = by .answers ∙ sym (mirror-done N (length (take (tableSize N) l)) top (table-length w))
@@ -110,8 +108,10 @@ module _ {f g : ℕ → ℕ → Float} {N : ℕ} {d l d′ l′ : List Float} (t
       entry-is mirror-table n m h k
       ∙ ap (turnedIf (isOdd (n - m + shift))) (getD-take (tableSize N) l (idx n m) nan (idx-within n m N h k) ∙ entry-is w n m h k)
 
-  entries-mirror : (n m : ℕ) → m ≤ n → n ≤ N → Alike (getD x (idx n m) nan) (getD l′ (idx n m) nan)
-  entries-mirror n m h k =
+  -- is the other, where the entries of the other are its own with their signs turned
+  entries-mirror : {g : ℕ → ℕ → Float} {d′ l′ : List Float} → Table g N d′ l′
+      → ((n m : ℕ) → m ≤ n → Turned (isOdd (n - m + shift)) (f n m) (g n m)) → (n m : ℕ) → m ≤ n → n ≤ N → Alike (getD x (idx n m) nan) (getD l′ (idx n m) nan)
+  entries-mirror w′ each n m h k =
       subst₂ Alike (sym (mirror-entry n m h k)) (sym (entry-is w′ n m h k)) (turned-alike (turned-back (isOdd (n - m + shift)) (each n m h)))
 
 -- ---- the values
@@ -139,10 +139,8 @@ module _ (N : ℕ) (t u : Float) {a b p p′ q q′ : List Float} (north : Compu
       → (r ≡ Done) × ((n m : ℕ) → m ≤ n → n ≤ N → Alike (getD x (idx n m) nan) (getD q′ (idx n m) nan))
   mirror-computes by =
       let top = compute-passed N (length a) (length b) (length p) (north .answers) .tables .top in
-      let each : (n m : ℕ) → m ≤ n → Turned (isOdd (n - m + 0)) (pCell (from 0 a nan) (from 0 b nan) t u n m) (pCell (from 0 a nan) (from 0 b nan) (neg t) u n m) =
-      λ n m h. subst (λ (z : Bool). Turned z (pCell (from 0 a nan) (from 0 b nan) t u n m) (pCell (from 0 a nan) (from 0 b nan) (neg t) u n m))
-      (odd-same (n - m) (n - m + 0) (omega arith)) (p-mirror (from 0 a nan) (from 0 b nan) t u n m) in
-      (mirror-answers top (computed north) (computed south) 0 each by, entries-mirror top (computed north) (computed south) 0 each by)
+      let each = p-each (from 0 a nan) (from 0 b nan) t u in
+      (mirror-answers top (computed north) 0 by, entries-mirror top (computed north) 0 by (computed south) each)
 
 -- ---- the derivatives
 d-fits : (s : ℕ → ℕ → Float) (n m : ℕ) → T (fits binary64 (dCell s n m))
@@ -192,15 +190,10 @@ module _ (N : ℕ) (t u : Float) {a b p dp p′ dp′ q dq q′ dq′ : List Flo
   mirror-derives by =
       let top = passed north .tables .top in
       let each = dp-mirror (from 0 a nan) (from 0 b nan) t u in
-      (mirror-answers top (derived north) (derived south) 1 each by, entries-mirror top (derived north) (derived south) 1 each by)
+      (mirror-answers top (derived north) 1 by, entries-mirror top (derived north) 1 by (derived south) each)
 
 -- ---- twice
--- a list along its entries
-cells-along : (table : List Float) (k : ℕ) → along (cells table nan) k ≡ getD table k nan
-unfolding along cells
-cells-along table k = let (h, e) = idx-degree-order k in ap (λ (i : ℕ). getD table i nan) e
-
--- a table that is mirrored twice is what it was, bit by bit
+-- a table that is mirrored twice is what it was, zeros with their signs
 pub mirror-twice : (shift N : ℕ) {table x y : List Float} → Mirror shift N table Done x → Mirror shift N x Done y → y ≡ table
 unfolding mirrored mirroredRow cells
 mirror-twice shift N {table} {x} by again =
@@ -209,7 +202,7 @@ mirror-twice shift N {table} {x} by again =
     let back : (n m : ℕ) → m ≤ n → n ≤ N → mirrored shift x n m ≡ cells table nan n m =
     λ n m h k. ap (turnedIf (isOdd (n - m + shift))) (entry-is once n m h k) ∙ turned-twice (isOdd (n - m + shift)) (getD table (idx n m) nan) in
     let stands = filled-standing {F = along (cells table nan)} nan 0 table (tableSize N)
-    (λ k b. ap (λ (i : ℕ). getD table i nan) (zero-add k) ∙ sym (cells-along table k)) in
+    (λ k b. ap (λ (i : ℕ). getD table i nan) (zero-add k) ∙ sym (cells-along table nan k)) in
     again .leaves
     ∙ fill-same 0 (along (mirrored shift x)) (along (cells table nan)) (tableSize N) x (along-same (mirrored shift x) (cells table nan) N back)
     ∙ ap (fill 0 (along (cells table nan)) (tableSize N)) (by .leaves)

@@ -119,7 +119,7 @@ pub fn mirror(nmax: usize, table: &mut [f64]) -> Answer
     ensures { λ r. ⌜ r ≡ mirrorCheck nmax (length (now (table .entry))) ⌝ }
     ensures { λ r. ⌜ now (table .exit) ≡ after r (fill 0 (along (mirrored 0 (now (table .entry)))) (tableSize nmax) (now (table .entry))) (now (table .entry)) ⌝ }
 {
-    mirrors::mirror_by(0, nmax, table)
+    mirrors::mirror_by(nmax, 0, table)
 }
 
 // The table of the derivatives by latitude likewise: each times (-1)^(n - m + 1).
@@ -127,7 +127,7 @@ pub fn mirror_derivative(nmax: usize, table: &mut [f64]) -> Answer
     ensures { λ r. ⌜ r ≡ mirrorCheck nmax (length (now (table .entry))) ⌝ }
     ensures { λ r. ⌜ now (table .exit) ≡ after r (fill 0 (along (mirrored 1 (now (table .entry)))) (tableSize nmax) (now (table .entry))) (now (table .entry)) ⌝ }
 {
-    mirrors::mirror_by(1, nmax, table)
+    mirrors::mirror_by(nmax, 1, table)
 }
 
 // P(n, m) from a table.

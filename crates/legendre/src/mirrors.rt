@@ -40,7 +40,7 @@ fn mirror_rows(nmax: usize, shift: usize, table: &mut [f64])
 }
 
 // The table, where its checks are passed: SIZE, and LENGTH of the one list, which is read too.
-pub(crate) fn mirror_by(shift: usize, nmax: usize, table: &mut [f64]) -> Answer
+pub(crate) fn mirror_by(nmax: usize, shift: usize, table: &mut [f64]) -> Answer
     requires { ⌜ shift ≤ 1 ⌝ }
     ensures { λ r. ⌜ r ≡ mirrorCheck nmax (length (now (table .entry))) ⌝ }
     ensures { λ r. ⌜ now (table .exit) ≡ after r (fill 0 (along (mirrored shift (now (table .entry)))) (tableSize nmax) (now (table .entry))) (now (table .entry)) ⌝ }

@@ -14,6 +14,7 @@ pub mod Units
 pub mod Parity
 pub mod Turned
 pub mod TurnedLaws
+pub mod TurnedControls
 pub mod Order
 pub mod OrderLaws
 pub mod Ranking

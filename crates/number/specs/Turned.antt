@@ -1,22 +1,22 @@
 -- Numbers that are the same or differ in their sign alone, where zeros of either sign are one number and NaN is NaN. Assumes nothing.
-use mathlib.Core.Path.{_≡_, refl, sym, ap, _∙_}
+use mathlib.Core.Path.{_≡_, refl, ap, _∙_}
 use mathlib.Core.Logic.{_⊎_, inl, inr}
 use mathlib.Core.Bool.{Bool, true, false, not, _&&_, _||_, cond, Bool·beq}
-use Prim.Native.Nat.{ℕ, _*_}
+use Prim.Native.Nat.{ℕ}
 use lib.IntN.{ℤ, pos}
 use lib.Dec.{T, eqb}
-use borrow.Author.Tests.{eq-eqb}
-use lib.Ieee.{Float, nan, inf, fin, binary64, up, down, unlike, eq, fits, neg, mul, ofBits}
+use lib.Ieee.{Float, nan, inf, fin, binary64, unlike, eq, isNan, fits, neg, mul, ofBits}
 use lib.Ieee.Scale.{finite}
 use Rattle.number.specs.Float64.{_⊗_}
 use Rattle.number.specs.Identities.{times-one, times-minus-one, zero-times}
+use Rattle.number.specs.Order.{self-equal}
 use Rattle.number.specs.Sign.{unitOf}
 
 -- equal, as the language's == has it (zeros of either sign are), or both NaN
 abbrev pub Alike : Float → Float → Type 0
 Alike x y = (eq x y ≡ true) ⊎ (x ≡ nan) × (y ≡ nan)
 
--- y is x, with its sign turned where s
+-- y is x, with its sign turned where s; a zero of either sign is a zero of the other, turned or not
 pub data Turned (s : Bool) : Float → Float → Type 0 where
   nans : Turned s nan nan
   infinities : (t : Bool) → Turned s (inf t) (inf (unlike s t))
@@ -28,40 +28,28 @@ abbrev pub turnedIf : Bool → Float → Float
 turnedIf s x = cond s (neg x) x
 
 -- ---- in words of ==
-same-level : (s : Bool) (k : ℕ) → eqb k k && (Bool·beq s s || eqb k 0) ≡ true
-same-level true k = rw (eq-eqb k k refl) refl
-same-level false k = rw (eq-eqb k k refl) refl
-
 zero-level : (s t : Bool) → eqb 0 0 && (Bool·beq s t || eqb 0 0) ≡ true
 zero-level true true = refl
 zero-level true false = refl
 zero-level false true = refl
 zero-level false false = refl
 
-equal-numbers : (s : Bool) (m : ℕ) (e : ℤ) → eq (fin s m e) (fin s m e) ≡ true
-unfolding eq
-equal-numbers s m e = same-level s (m * up e * down e)
-
 equal-zeros : (s t : Bool) → eq (fin s 0 (pos 0)) (fin t 0 (pos 0)) ≡ true
 unfolding eq
 equal-zeros s t = zero-level s t
 
-equal-infinities : (s : Bool) → eq (inf s) (inf s) ≡ true
-unfolding eq
-equal-infinities true = refl
-equal-infinities false = refl
-
-by-equal : (x y : Float) → eq x x ≡ true → y ≡ x → Alike x y
-by-equal x y h e = inl (ap (eq x) e ∙ h)
+same-number : (x y : Float) → isNan x ≡ false → y ≡ x → Alike x y
+same-number x y h e = inl (ap (eq x) e ∙ self-equal x ∙ ap not h)
 
 -- a number whose sign is not turned is the same
 pub turned-alike : {x y : Float} → Turned false x y → Alike x y
+unfolding isNan
 turned-alike nans = inr (refl, refl)
-turned-alike (infinities true) = inl (equal-infinities true)
-turned-alike (infinities false) = inl (equal-infinities false)
+turned-alike (infinities true) = same-number (inf true) _ refl refl
+turned-alike (infinities false) = same-number (inf false) _ refl refl
 turned-alike (zeros t t′) = inl (equal-zeros t t′)
-turned-alike (numbers true m e) = inl (equal-numbers true m e)
-turned-alike (numbers false m e) = inl (equal-numbers false m e)
+turned-alike (numbers true m e) = same-number (fin true m e) _ refl refl
+turned-alike (numbers false m e) = same-number (fin false m e) _ refl refl
 
 -- a sign times 1 or -1
 infinite-times : (s t : Bool) → Alike (inf (unlike s t)) (inf t ⊗ unitOf s)
@@ -82,11 +70,11 @@ zero-turns s t t′ =
     inl (ap (eq (fin t′ 0 (pos 0))) e ∙ equal-zeros t′ v)
 
 number-times : (s t : Bool) (m : ℕ) (e : ℤ) → T (fits binary64 (fin t m e)) → Alike (fin (unlike s t) m e) (fin t m e ⊗ unitOf s)
-unfolding neg
-number-times true true m e h = by-equal (fin false m e) _ (equal-numbers false m e) (times-minus-one (fin true m e) h)
-number-times true false m e h = by-equal (fin true m e) _ (equal-numbers true m e) (times-minus-one (fin false m e) h)
-number-times false true m e h = by-equal (fin true m e) _ (equal-numbers true m e) (times-one (fin true m e) h)
-number-times false false m e h = by-equal (fin false m e) _ (equal-numbers false m e) (times-one (fin false m e) h)
+unfolding neg isNan
+number-times true true m e h = same-number (fin false m e) _ refl (times-minus-one (fin true m e) h)
+number-times true false m e h = same-number (fin true m e) _ refl (times-minus-one (fin false m e) h)
+number-times false true m e h = same-number (fin true m e) _ refl (times-one (fin true m e) h)
+number-times false false m e h = same-number (fin false m e) _ refl (times-one (fin false m e) h)
 
 -- y is x times -1 where s, and times 1 elsewhere
 pub turned-times : (s : Bool) {x y : Float} → T (fits binary64 x) → Turned s x y → Alike y (x ⊗ unitOf s)

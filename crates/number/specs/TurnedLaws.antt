@@ -1,5 +1,5 @@
--- Operations on numbers whose signs are turned: a product turns where one factor does, a sum or a difference where both terms do. Assumes nothing.
-use mathlib.Core.Path.{_≡_, refl, sym, ap, _∙_, subst, subst₂}
+-- Operations on numbers whose signs are turned: a product turns where just one factor does, a sum or a difference where both terms do. Assumes nothing.
+use mathlib.Core.Path.{_≡_, refl, sym, ap, subst, subst₂}
 use mathlib.Core.Bool.{Bool, true, false, not, _&&_, cond, Bool·beq}
 use Prim.Native.Nat.{ℕ, zero, suc, _+_, _-_, _*_, _^_, _≤_, _<_}
 use native.Mathlib.Nat.{zero-mul, mul-zero, mul-pos}
@@ -8,9 +8,9 @@ use lib.IntN.{ℤ, pos}
 use lib.Dec.{T, ltb, eqb, nltb→le}
 use borrow.Author.Tests.{lt-ltb, le-ltb}
 use lib.Pow.{pow-pos}
-use lib.Ieee.{Float, nan, inf, fin, Format, binary64, prec, emax, low, unlike, up, down, odd, units, round, neg, sum, add, sub, mul}
+use lib.Ieee.{Float, nan, inf, fin, Format, binary64, prec, emax, low, unlike, up, down, odd, units, round, neg, sum, add, sub, mul, ofBits}
 use lib.Ieee.Fits.{down-pos}
-use Rattle.number.specs.Float64.{_⊕_, _⊖_, _⊗_}
+use Rattle.number.specs.Float64.{_⊕_, _⊖_, _⊗_, zero64}
 use Rattle.number.specs.Identities.{round-zero}
 use Rattle.number.specs.Turned.{Turned, nans, infinities, zeros, numbers}
 
@@ -206,3 +206,16 @@ turned-both {s} (numbers t m e) = subst (λ (z : Bool). Turned s (fin (not t) m 
 pub turned-sub : {s : Bool} {x y x′ y′ : Float} → Turned s x y → Turned s x′ y′ → Turned s (x ⊖ x′) (y ⊖ y′)
 unfolding sub
 turned-sub a b = turned-add a (turned-both b)
+
+-- ---- a factor that stays, and +0
+pub turned-right : (s : Bool) {x y : Float} (f : Float) → Turned s x y → Turned s (x ⊗ f) (y ⊗ f)
+turned-right true f h = turned-mul h (turned-same f)
+turned-right false f h = turned-mul h (turned-same f)
+
+pub turned-left : (s : Bool) {x y : Float} (f : Float) → Turned s x y → Turned s (f ⊗ x) (f ⊗ y)
+turned-left true f h = turned-mul (turned-same f) h
+turned-left false f h = turned-mul (turned-same f) h
+
+pub turned-zero : (s : Bool) → Turned s zero64 zero64
+unfolding ofBits
+turned-zero s = zeros false false

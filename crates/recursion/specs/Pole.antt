@@ -3,17 +3,17 @@
 use mathlib.Core.Path.{_≡_, refl, sym, ap, _∙_, subst}
 use mathlib.Core.Bool.{Bool, true, false, not, cond}
 use mathlib.Core.List.{List}
-use Prim.Native.Nat.{ℕ, zero, suc, _+_, _-_, _*_, _≤_, _<_}
-use native.Mathlib.Nat.{mul-pos, zero-add, zero-mul}
+use Prim.Native.Nat.{ℕ, zero, suc, _+_, _-_, _*_, _≤_}
+use native.Mathlib.Nat.{mul-pos, zero-add}
 use native.Mathlib.Numerals.{unary-clauses}
 use native.Mathlib.Omega.{arith}
 use lib.IntN.{ℤ, pos}
 use lib.Dec.{T, eqb, eqb→eq}
 use lib.Pow.{pow-pos}
 use lib.ListN.{length, getD}
-use lib.Ieee.{Float, nan, inf, fin, binary64, unlike, up, down, eq, round, ofBits, neg, add, sub, mul, div}
+use lib.Ieee.{Float, nan, inf, fin, binary64, unlike, up, down, eq, ofBits, neg, add, sub, mul, div}
 use lib.Ieee.Fits.{and-l, up-pos, down-pos}
-use lib.Ieee.Scale.{finite, round-same}
+use lib.Ieee.Scale.{finite}
 use Rattle.number.specs.Float64.{_⊗_, _⊘_, zero64, one64}
 use Rattle.number.specs.Identities.{product-comm, round-zero, zero-times-nan}
 use Rattle.storage.specs.Fill.{fill}

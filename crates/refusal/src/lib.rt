@@ -6,7 +6,7 @@ ghost use Rattle.refusal.specs.Numbers.{refusalNumber, answerNumber, val
 pub enum Refusal {
     // a degree, an order of a rule or a matrix, or a count of rows or longitudes is too large
     Size,
-    // an input list has not exactly its stated length
+    // an input list, or one that is changed in place, has not exactly its stated length
     Length,
     // an output list is shorter than its answer, or a working list too short
     Space,

@@ -11,7 +11,7 @@ ghost use Prim.Native.Nat.{_+_, _*_, _≤_};
 ghost use lib.ListN.{length};
 
 // Every zero is +0 afterwards.
-fn unsign_zeros(list: &mut [f64]) {
+pub(crate) fn unsign_zeros(list: &mut [f64]) {
     let mut i = 0;
     while i < list.len() {
         list[i] = list[i] + 0.0;

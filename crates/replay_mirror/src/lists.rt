@@ -1,5 +1,6 @@
 // Lists that are no table at a latitude: any numbers, second derivatives, which turn as P does, lists of other lengths, and what is told of a list.
 use crate::answers;
+use crate::examples::unsign_zeros;
 use geopotential::lists::geopotential_legendre_mirror_derivative_lengths;
 use geopotential::lists::geopotential_legendre_mirror_lengths;
 use geopotential::tables::geopotential_legendre_mirror;

@@ -150,6 +150,20 @@ pub const TRUNCATED_S: [u64; 6] = [
     0x8000_0000_0000_0001,
 ];
 
+// c of that, truncated at degree 1
+pub const TRUNCATED_AGAIN_C: [u64; 3] = [
+    0x8000_0000_0000_0000,
+    0x3fd3_3333_3333_3333,
+    0x1eb6_7e9c_127b_6e74,
+];
+
+// s of that
+pub const TRUNCATED_AGAIN_S: [u64; 3] = [
+    0x0000_0000_0000_0001,
+    0x8000_0000_0000_0000,
+    0x9e4c_cb05_3660_8d61,
+];
+
 // c with one entry set
 pub const SET_C: [u64; 10] = [
     0x8000_0000_0000_0000,
@@ -284,6 +298,20 @@ pub const ORDINARY_TRUNCATED_S: [u64; 6] = [
     0x0000_0000_0000_0000,
     0x3e14_9da7_e361_ce4c,
     0xbeb7_7e21_3718_9659,
+];
+
+// c of that, truncated at degree 1
+pub const ORDINARY_TRUNCATED_AGAIN_C: [u64; 3] = [
+    0x3ff0_0000_0000_0000,
+    0x3fb9_9999_9999_999a,
+    0xbfd3_3333_3333_3333,
+];
+
+// s of that
+pub const ORDINARY_TRUNCATED_AGAIN_S: [u64; 3] = [
+    0x0000_0000_0000_0000,
+    0x0000_0000_0000_0000,
+    0x3fe6_6666_6666_6666,
 ];
 
 // c with one entry set

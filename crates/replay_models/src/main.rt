@@ -132,16 +132,55 @@ fn show_rescaled(
     }
 }
 
-fn show_truncated(head: Head, c: &[f64; 10], s: &[f64; 10], duec: &[u64; 6], dues: &[u64; 6]) {
+// A field of degree 3 cut at 2, what was made of it at 1, and that at 2, where nothing comes back: due are the lists of the first cut and of the second.
+fn show_truncated(
+    head: Head,
+    c: &[f64; 10],
+    s: &[f64; 10],
+    duec: &[u64; 6],
+    dues: &[u64; 6],
+    againc: &[u64; 3],
+    agains: &[u64; 3],
+) {
     let mut outc = [0.0; 6];
     let mut outs = [0.0; 6];
     match head.truncated(c, s, 2, &mut outc, &mut outs) {
-        Model::Made(_) => {
+        Model::Made(cut) => {
             show(b"truncated c ", &outc, duec, 0);
             show(b"truncated s ", &outs, dues, 0);
+            show_truncated_again(cut, &outc, &outs, againc, agains);
         }
         Model::Refused(_) => {
             io::write_all(1, b"truncated refused\n");
+        }
+    }
+}
+
+fn show_truncated_again(head: Head, c: &[f64; 6], s: &[f64; 6], duec: &[u64; 3], dues: &[u64; 3]) {
+    let mut outc = [0.0; 3];
+    let mut outs = [0.0; 3];
+    match head.truncated(c, s, 1, &mut outc, &mut outs) {
+        Model::Made(cut) => {
+            show(b"truncated again c ", &outc, duec, 0);
+            show(b"truncated again s ", &outs, dues, 0);
+            show_truncated_above(cut, &outc, &outs, duec, dues);
+        }
+        Model::Refused(_) => {
+            io::write_all(1, b"truncated again refused\n");
+        }
+    }
+}
+
+fn show_truncated_above(head: Head, c: &[f64; 3], s: &[f64; 3], duec: &[u64; 3], dues: &[u64; 3]) {
+    let mut outc = [0.0; 3];
+    let mut outs = [0.0; 3];
+    match head.truncated(c, s, 2, &mut outc, &mut outs) {
+        Model::Made(_) => {
+            show(b"truncated above c ", &outc, duec, 0);
+            show(b"truncated above s ", &outs, dues, 0);
+        }
+        Model::Refused(_) => {
+            io::write_all(1, b"truncated above refused\n");
         }
     }
 }
@@ -208,7 +247,15 @@ fn special() {
         &fields::RESCALED_C,
         &fields::RESCALED_S,
     );
-    show_truncated(head, &c, &s, &fields::TRUNCATED_C, &fields::TRUNCATED_S);
+    show_truncated(
+        head,
+        &c,
+        &s,
+        &fields::TRUNCATED_C,
+        &fields::TRUNCATED_S,
+        &fields::TRUNCATED_AGAIN_C,
+        &fields::TRUNCATED_AGAIN_S,
+    );
     show_set(head, &fields::C, &fields::S, &fields::SET_C, &fields::SET_S);
 }
 
@@ -248,6 +295,8 @@ fn ordinary() {
         &s,
         &fields::ORDINARY_TRUNCATED_C,
         &fields::ORDINARY_TRUNCATED_S,
+        &fields::ORDINARY_TRUNCATED_AGAIN_C,
+        &fields::ORDINARY_TRUNCATED_AGAIN_S,
     );
     show_set(
         head,

@@ -7,7 +7,7 @@ use native.Mathlib.Numerals.{add-one}
 use native.Mathlib.Omega.{arith}
 use mathlib.Core.List.{List, _++_}
 use lib.ListN.{length, getD, set, take, drop, length-set}
-use lib.Seq.{set-getD}
+use lib.Seq.{set-getD, length-take-le}
 use Rattle.storage.specs.Fill.{fill, length-fill, fill-none, fill-more, fill-in, fill-before, fill-after, fill-join, fill-again, fill-same, fill-part}
 use Rattle.storage.specs.Fill.{fill-swap}
 
@@ -127,6 +127,10 @@ module _ {A : Type 0} where
     pub filled-last : {at′ : ℕ} → Filled at′ G (n - k) l l′ → at′ ≡ at + k → k ≤ n → ((j : ℕ) → j < k → getD l (at + j) z ≡ F j)
         → ((j : ℕ) → j < n - k → F (k + j) ≡ G j) → Filled at F n l l′
     filled-last r p h old new = filled-to (filled-join (filled-standing z at l k old) r p new) (add-sub-of-le h)
+
+-- the part that is filled, by itself
+pub filled-length : {A : Type 0} {F : ℕ → A} {k : ℕ} {d l : List A} → Filled 0 F k d l → k ≤ length d → length (take k l) ≡ k
+filled-length {k = k} {l = l} r h = let long = r .long in length-take-le k l (omega arith)
 
 -- the n elements from s on, lent, filled from their front and given back
 pub filled-part : {A : Type 0} {k : ℕ} {F : ℕ → A} {y : List A} (s n : ℕ) (w : List A) → Filled 0 F k (take n (drop s w)) y → k ≤ n

@@ -165,6 +165,11 @@ along-same f g N e k h =
 unfoldable pub cells : {A : Type 0} → List A → A → ℕ → ℕ → A
 cells l z n m = getD l (idx n m) z
 
+-- along the storage they are the list
+pub cells-along : {A : Type 0} (l : List A) (z : A) (k : ℕ) → along (cells l z) k ≡ getD l k z
+unfolding along cells
+cells-along l z k = let (h, e) = idx-degree-order k in ap (λ (i : ℕ). getD l i z) e
+
 module _ {A : Type 0} (f : ℕ → ℕ → A) (n : ℕ) {at k : ℕ} {d l : List A} where
   -- row n written after the rows below it, in a table that starts at index at
   pub rows-more : {at′ j : ℕ} {l′ : List A} → Filled at (along f) k d l → Filled at′ (f n) j l l′ → k ≡ rowStart n → at′ ≡ at + k → j ≡ n + 1

@@ -1,6 +1,5 @@
 -- `geopotential_legendre_mirror_derivative` meets its contract. Assumes nothing.
 use borrow.Author.Needs.{needs}
-use mathlib.Core.Path.{_∙_}
 use Rattle.storage.specs.Fill.{length-fill}
 use Rattle.geopotential.specs.Models.{after-length}
 use Rattle.geopotential.proofs.tables.geopotential_legendre_mirror_derivative.Statement.{statement}

@@ -4,7 +4,7 @@ use Rattle.legendre.specs.Checks.{mirror-size, mirror-length, mirror-don
 use Rattle.legendre.specs.MirrorLaws.{mirror-promise}
 use borrow.Author.Needs.{needs}
 use native.Mathlib.Omega.{arith}
-use mathlib.Core.Path.{_≡_, refl, sym, ap, _∙_}
+use mathlib.Core.Path.{refl}
 use Rattle.legendre.proofs.mirrors.mirror_by.Statement.{statement}
 use Rattle.legendre.proofs.mirrors.mirror_by.Tie as tie
 

@@ -3,11 +3,9 @@ use Rattle.storage.specs.Elements.{from}
 use Rattle.storage.specs.Filled.{Filled, filled-to}
 use Rattle.legendre.specs.Mirrored.{mirroredRow, row-first, row-next}
 use lib.Ieee.{nan}
-use borrow.Author.Needs.{needs}
 use native.Mathlib.Omega.{arith}
-use mathlib.Core.Path.{_≡_, refl, sym, ap, _∙_}
-use Prim.Native.Nat.{ℕ, _+_, _-_, _*_, _%_, _≤_, _<_, min}
-use lib.ListN.{length}
+use mathlib.Core.Path.{_≡_, refl}
+use Prim.Native.Nat.{_+_, _-_, _%_, _≤_, min}
 use Rattle.legendre.proofs.mirrors.mirror_row.Statement.{statement}
 use Rattle.legendre.proofs.mirrors.mirror_row.Tie as tie
 

@@ -2,11 +2,9 @@
 use Rattle.storage.specs.Filled.{Filled, filled-none, filled-to}
 use Rattle.storage.specs.Triangle.{rowStart, along, row-start-zero, row-within, row-start-more}
 use Rattle.legendre.specs.Mirrored.{mirrored, mirrored-row-more}
-use borrow.Author.Needs.{needs}
 use native.Mathlib.Omega.{arith}
-use mathlib.Core.Path.{_≡_, refl, sym, ap, _∙_}
-use Prim.Native.Nat.{ℕ, _+_, _-_, _≤_}
-use lib.ListN.{length}
+use mathlib.Core.Path.{_≡_, sym, ap}
+use Prim.Native.Nat.{_+_, _-_, _≤_}
 use Rattle.legendre.proofs.mirrors.mirror_rows.Statement.{statement}
 use Rattle.legendre.proofs.mirrors.mirror_rows.Tie as tie
 
