@@ -67,6 +67,27 @@ fn lengths(name: &str, nmax: usize, places: usize) -> String {
     array(&format!("what is told of a table of degree {nmax}, in a list of {places}"), &format!("MIRROR_LENGTHS{name}"), &due)
 }
 
+/// Degrees at and beyond the limit, of 33 and of 64 bits with a small one's low bits, and lists with a place behind the length, with none behind it, and with
+/// no place for it.
+const TOLD: [(&str, usize, usize); 8] = [
+    ("", 3, 2),
+    ("_ONE", 3, 1),
+    ("_LARGE", 2700, 2),
+    ("_BEYOND", 2701, 2),
+    ("_WIDE", (1 << 32) + 3, 2),
+    ("_WIDEST", (1 << 63) + 3, 2),
+    ("_SHORT", 3, 0),
+    ("_BEYOND_SHORT", 2701, 0),
+];
+
+/// The last two rows of a table of ones up to degree 22, which has more than 255 numbers, after a call.
+fn last_rows(mirror: Mirror) -> String {
+    let after = mirror.read(22, &vec![1.0; pairs(22) as usize]);
+    let call = if matches!(mirror, Mirror::Values) { "mirror" } else { "mirror_derivative" };
+    let comment = format!("the last two rows of ones up to degree 22 after `{call}`");
+    array(&comment, &format!("{}_ROWS", call.to_uppercase()), &numbers(&after[pairs(20) as usize..]))
+}
+
 pub fn text() -> String {
     let mut text = array("a list before `mirror` and `mirror_derivative`", "MIRROR_BEFORE", &numbers(&BEFORE));
     for mirror in [Mirror::Values, Mirror::Derivatives] {
@@ -75,6 +96,8 @@ pub fn text() -> String {
         text += &values("_LONG", mirror, 2, 7);
         text += &values("_BEYOND", mirror, 2701, 6);
     }
-    text += &(lengths("", 3, 2) + &lengths("_LARGE", 2700, 2) + &lengths("_BEYOND", 2701, 2) + &lengths("_SHORT", 3, 0));
-    text + &refusals()
+    for (name, nmax, places) in TOLD {
+        text += &lengths(name, nmax, places);
+    }
+    text + &last_rows(Mirror::Values) + &last_rows(Mirror::Derivatives) + &refusals()
 }

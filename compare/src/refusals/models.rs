@@ -12,7 +12,8 @@ const CALLS: [Call; 9] = [
     Call {
         name: "truncated",
         limits: &[2700, ANY],
-        small: &[&[0, 0], &[0, ANY], &[1, 0], &[1, 2], &[1, 2701], &[2, 1]],
+        // Cuts of 33 and of 64 bits, of which the low ones are the base's.
+        small: &[&[0, 0], &[0, ANY], &[1, 0], &[1, 2], &[1, 2701], &[2, (1 << 32) + 1], &[2, (1 << 63) + 1], &[2, 1]],
         functionals: &[],
         lists: |n| [vec![(Input, pairs(n[0])); 2], vec![(Output, pairs(n[0].min(n[1]))); 2]].concat(),
     },

@@ -1236,14 +1236,124 @@ pub const MIRROR_DERIVATIVE_BEYOND: [u64; 7] = [
 // what is told of a table of degree 3, in a list of 2
 pub const MIRROR_LENGTHS: [u64; 3] = [0, 10, 1234];
 
+// what is told of a table of degree 3, in a list of 1
+pub const MIRROR_LENGTHS_ONE: [u64; 2] = [0, 10];
+
 // what is told of a table of degree 2700, in a list of 2
 pub const MIRROR_LENGTHS_LARGE: [u64; 3] = [0, 3649051, 1234];
 
 // what is told of a table of degree 2701, in a list of 2
 pub const MIRROR_LENGTHS_BEYOND: [u64; 3] = [1, 1234, 1234];
 
+// what is told of a table of degree 4294967299, in a list of 2
+pub const MIRROR_LENGTHS_WIDE: [u64; 3] = [1, 1234, 1234];
+
+// what is told of a table of degree 9223372036854775811, in a list of 2
+pub const MIRROR_LENGTHS_WIDEST: [u64; 3] = [1, 1234, 1234];
+
 // what is told of a table of degree 3, in a list of 0
 pub const MIRROR_LENGTHS_SHORT: [u64; 1] = [3];
+
+// what is told of a table of degree 2701, in a list of 0
+pub const MIRROR_LENGTHS_BEYOND_SHORT: [u64; 1] = [1];
+
+// the last two rows of ones up to degree 22 after `mirror`
+pub const MIRROR_ROWS: [u64; 45] = [
+    0xbff0_0000_0000_0000,
+    0x3ff0_0000_0000_0000,
+    0xbff0_0000_0000_0000,
+    0x3ff0_0000_0000_0000,
+    0xbff0_0000_0000_0000,
+    0x3ff0_0000_0000_0000,
+    0xbff0_0000_0000_0000,
+    0x3ff0_0000_0000_0000,
+    0xbff0_0000_0000_0000,
+    0x3ff0_0000_0000_0000,
+    0xbff0_0000_0000_0000,
+    0x3ff0_0000_0000_0000,
+    0xbff0_0000_0000_0000,
+    0x3ff0_0000_0000_0000,
+    0xbff0_0000_0000_0000,
+    0x3ff0_0000_0000_0000,
+    0xbff0_0000_0000_0000,
+    0x3ff0_0000_0000_0000,
+    0xbff0_0000_0000_0000,
+    0x3ff0_0000_0000_0000,
+    0xbff0_0000_0000_0000,
+    0x3ff0_0000_0000_0000,
+    0x3ff0_0000_0000_0000,
+    0xbff0_0000_0000_0000,
+    0x3ff0_0000_0000_0000,
+    0xbff0_0000_0000_0000,
+    0x3ff0_0000_0000_0000,
+    0xbff0_0000_0000_0000,
+    0x3ff0_0000_0000_0000,
+    0xbff0_0000_0000_0000,
+    0x3ff0_0000_0000_0000,
+    0xbff0_0000_0000_0000,
+    0x3ff0_0000_0000_0000,
+    0xbff0_0000_0000_0000,
+    0x3ff0_0000_0000_0000,
+    0xbff0_0000_0000_0000,
+    0x3ff0_0000_0000_0000,
+    0xbff0_0000_0000_0000,
+    0x3ff0_0000_0000_0000,
+    0xbff0_0000_0000_0000,
+    0x3ff0_0000_0000_0000,
+    0xbff0_0000_0000_0000,
+    0x3ff0_0000_0000_0000,
+    0xbff0_0000_0000_0000,
+    0x3ff0_0000_0000_0000,
+];
+
+// the last two rows of ones up to degree 22 after `mirror_derivative`
+pub const MIRROR_DERIVATIVE_ROWS: [u64; 45] = [
+    0x3ff0_0000_0000_0000,
+    0xbff0_0000_0000_0000,
+    0x3ff0_0000_0000_0000,
+    0xbff0_0000_0000_0000,
+    0x3ff0_0000_0000_0000,
+    0xbff0_0000_0000_0000,
+    0x3ff0_0000_0000_0000,
+    0xbff0_0000_0000_0000,
+    0x3ff0_0000_0000_0000,
+    0xbff0_0000_0000_0000,
+    0x3ff0_0000_0000_0000,
+    0xbff0_0000_0000_0000,
+    0x3ff0_0000_0000_0000,
+    0xbff0_0000_0000_0000,
+    0x3ff0_0000_0000_0000,
+    0xbff0_0000_0000_0000,
+    0x3ff0_0000_0000_0000,
+    0xbff0_0000_0000_0000,
+    0x3ff0_0000_0000_0000,
+    0xbff0_0000_0000_0000,
+    0x3ff0_0000_0000_0000,
+    0xbff0_0000_0000_0000,
+    0xbff0_0000_0000_0000,
+    0x3ff0_0000_0000_0000,
+    0xbff0_0000_0000_0000,
+    0x3ff0_0000_0000_0000,
+    0xbff0_0000_0000_0000,
+    0x3ff0_0000_0000_0000,
+    0xbff0_0000_0000_0000,
+    0x3ff0_0000_0000_0000,
+    0xbff0_0000_0000_0000,
+    0x3ff0_0000_0000_0000,
+    0xbff0_0000_0000_0000,
+    0x3ff0_0000_0000_0000,
+    0xbff0_0000_0000_0000,
+    0x3ff0_0000_0000_0000,
+    0xbff0_0000_0000_0000,
+    0x3ff0_0000_0000_0000,
+    0xbff0_0000_0000_0000,
+    0x3ff0_0000_0000_0000,
+    0xbff0_0000_0000_0000,
+    0x3ff0_0000_0000_0000,
+    0xbff0_0000_0000_0000,
+    0x3ff0_0000_0000_0000,
+    0xbff0_0000_0000_0000,
+];
 
 // legendre_mirror: 32 cases of 2 columns
 pub const LEGENDRE_MIRROR: [u64; 64] = [

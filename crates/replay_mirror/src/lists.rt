@@ -7,6 +7,7 @@ use geopotential::tables::geopotential_legendre_mirror;
 use geopotential::tables::geopotential_legendre_mirror_derivative;
 use replay_print::show;
 use replay_print::show_words;
+ghost use mathlib.Core.Path.{_≡_};
 ghost use Prim.Native.Nat.{_+_, _≤_};
 ghost use lib.ListN.{length};
 
@@ -99,21 +100,82 @@ fn show_told(nmax: usize, due: &[u64; 3]) {
     show_words(b"legendre_mirror_derivative_lengths ", &also, due, 0);
 }
 
-// With no place for it.
-fn show_told_short(l: &mut [usize]) {
-    let number = geopotential_legendre_mirror_lengths(3, l);
-    let other = geopotential_legendre_mirror_derivative_lengths(3, l);
+// With one place, just enough.
+fn show_told_one() {
+    let mut l = [MARK_LENGTH; 1];
+    let number = geopotential_legendre_mirror_lengths(3, &mut l);
+    let told = [number as u64, l[0] as u64];
     show_words(
-        b"legendre_mirror_lengths, SPACE ",
+        b"legendre_mirror_lengths, one place ",
+        &told,
+        &answers::MIRROR_LENGTHS_ONE,
+        0,
+    );
+    l = [MARK_LENGTH; 1];
+    let other = geopotential_legendre_mirror_derivative_lengths(3, &mut l);
+    let also = [other as u64, l[0] as u64];
+    show_words(
+        b"legendre_mirror_derivative_lengths, one place ",
+        &also,
+        &answers::MIRROR_LENGTHS_ONE,
+        0,
+    );
+}
+
+// With no place for it.
+fn show_told_short(nmax: usize, l: &mut [usize], due: &[u64; 1]) {
+    let number = geopotential_legendre_mirror_lengths(nmax, l);
+    let other = geopotential_legendre_mirror_derivative_lengths(nmax, l);
+    show_words(
+        b"legendre_mirror_lengths, no place ",
         &[number as u64],
-        &answers::MIRROR_LENGTHS_SHORT,
+        due,
         0,
     );
     show_words(
-        b"legendre_mirror_derivative_lengths, SPACE ",
+        b"legendre_mirror_derivative_lengths, no place ",
         &[other as u64],
-        &answers::MIRROR_LENGTHS_SHORT,
+        due,
         0,
+    );
+}
+
+fn show_lengths() {
+    show_told(3, &answers::MIRROR_LENGTHS);
+    show_told(2700, &answers::MIRROR_LENGTHS_LARGE);
+    show_told(2701, &answers::MIRROR_LENGTHS_BEYOND);
+    show_told(4294967299, &answers::MIRROR_LENGTHS_WIDE);
+    show_told(9223372036854775811, &answers::MIRROR_LENGTHS_WIDEST);
+    show_told_one();
+    let mut l = [MARK_LENGTH; 1];
+    let end = 0;
+    show_told_short(3, &mut l[..end], &answers::MIRROR_LENGTHS_SHORT);
+    show_told_short(2701, &mut l[..end], &answers::MIRROR_LENGTHS_BEYOND_SHORT);
+}
+
+// The last two rows of a table up to degree 22.
+fn show_rows(name: &[u8], table: &[f64], due: &[u64; 45])
+    requires { ⌜ length (now table) ≡ 276 ⌝ ∗ ⌜ length (now name) ≤ 80 ⌝ }
+{
+    let from = 231;
+    show(name, &table[from..], due, 0);
+}
+
+// A table of ones.
+fn show_large() {
+    let mut table = [1.0; 276];
+    geopotential_legendre_mirror(22, &mut table);
+    show_rows(
+        b"legendre_mirror, degree 22 ",
+        &table,
+        &answers::MIRROR_ROWS,
+    );
+    table = [1.0; 276];
+    geopotential_legendre_mirror_derivative(22, &mut table);
+    show_rows(
+        b"legendre_mirror_derivative, degree 22 ",
+        &table,
+        &answers::MIRROR_DERIVATIVE_ROWS,
     );
 }
 
@@ -122,10 +184,6 @@ pub fn show_lists() {
     show_second();
     show_sizes();
     show_sizes_derivative();
-    show_told(3, &answers::MIRROR_LENGTHS);
-    show_told(2700, &answers::MIRROR_LENGTHS_LARGE);
-    show_told(2701, &answers::MIRROR_LENGTHS_BEYOND);
-    let mut l = [MARK_LENGTH; 1];
-    let end = 0;
-    show_told_short(&mut l[..end]);
+    show_large();
+    show_lengths();
 }

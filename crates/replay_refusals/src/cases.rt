@@ -225,8 +225,8 @@ pub const ZEROS_DUE: [u64; 26] = [
     0,
 ];
 
-// truncated: 26 cases of 6 columns
-pub const TRUNCATED: [u64; 156] = [
+// truncated: 28 cases of 6 columns
+pub const TRUNCATED: [u64; 168] = [
     0,
     0,
     1,
@@ -257,6 +257,18 @@ pub const TRUNCATED: [u64; 156] = [
     3,
     3,
     3,
+    2,
+    4294967297,
+    6,
+    6,
+    6,
+    6,
+    2,
+    9223372036854775809,
+    6,
+    6,
+    6,
+    6,
     2,
     1,
     6,
@@ -386,7 +398,7 @@ pub const TRUNCATED: [u64; 156] = [
 ];
 
 // due of each: the refusal, and what changes
-pub const TRUNCATED_DUE: [u64; 52] = [
+pub const TRUNCATED_DUE: [u64; 56] = [
     0,
     1010101,
     0,
@@ -397,6 +409,10 @@ pub const TRUNCATED_DUE: [u64; 52] = [
     3030303,
     0,
     3030303,
+    0,
+    6060606,
+    0,
+    6060606,
     0,
     3030303,
     2,
