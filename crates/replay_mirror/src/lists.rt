@@ -30,7 +30,7 @@ fn show_any() {
     );
 }
 
-// Second derivatives by `mirror`.
+// Second derivatives by `mirror`, and beside those at -t, with every zero +0.
 fn show_second() {
     let mut table = [0.0; 10];
     replay::load(&answers::SECOND, 0, &mut table);
@@ -41,6 +41,8 @@ fn show_second() {
         &answers::SECOND,
         10,
     );
+    unsign_zeros(&mut table);
+    show(b"second derivatives at -t ", &table, &answers::SECOND, 20);
 }
 
 // A list and a degree: due are the number and the list afterwards.
