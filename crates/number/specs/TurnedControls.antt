@@ -1,10 +1,12 @@
 -- The words of change request W6 at fixed numbers, so that a change of these words is noticed: which numbers are the same, and which turned signs are none.
 -- Assumes nothing.
-use mathlib.Core.Path.{_≡_, refl, sym, ap, _∙_}
-use mathlib.Core.Bool.{Bool, true, false, true≢false}
-use mathlib.Core.Logic.{_⊎_, inl, inr}
-use lib.Ieee.{Float, nan, isNan, eq, neg, ofBits}
+use mathlib.Core.Path.{_≡_, refl, sym, ap, subst}
+use mathlib.Core.Bool.{true, true≢false}
+use mathlib.Core.Logic.{inl, inr}
+use lib.Ieee.{nan, binary64, isNan, eq, neg, ofBits}
+use lib.Ieee.Bits.{ofBits-fits}
 use Rattle.number.specs.Float64.{zero64, one64}
+use Rattle.number.specs.Identities.{times-minus-one}
 use Rattle.number.specs.Parity.{minusOneTo}
 use Rattle.number.specs.Turned.{Alike, Turned, turned-times}
 
@@ -31,6 +33,12 @@ pub nan-not-one : Alike nan one64 → ⊥
 unfolding eq ofBits isNan
 nan-not-one (inl e) = absurd (true≢false (sym e))
 nan-not-one (inr (e, g)) = absurd (true≢false (sym (ap isNan g)))
+
+-- 1 with its sign turned is not 1
+pub one-not-turned : Turned true one64 one64 → ⊥
+one-not-turned h =
+    let fit = ofBits-fits binary64 0x3ff0_0000_0000_0000 in
+    one-not-negative (subst (Alike one64) (times-minus-one one64 fit) (turned-times true fit h))
 
 -- the powers of -1
 pub minus-one-once : minusOneTo 1 ≡ neg one64
