@@ -11,7 +11,8 @@ use Rattle.model_file.specs.declared.FileHead.{FileHead}
 use Rattle.model_file.specs.Format.{headSize, headOf, parse, model}
 use Rattle.local.specs.Point.{pointCheckOf}
 use Rattle.lengths.specs.Lengths.{degreeSize, partialsLengths, secondLengths, threeLengths, nineLengths, readLengths}
-use Rattle.lengths.specs.Enough.{partials-enough, second-enough, read-enough}
+use Rattle.lengths.specs.Enough.{partials-enough, second-enough}
+use Rattle.lengths.specs.EnoughFiles.{read-enough}
 use Rattle.geopotential.specs.Files.{modelRead, read-model}
 use Rattle.geopotential.specs.Points.{numbersCheck, pointCheck, threeCheck, out-done}
 use Rattle.geopotential.specs.Tensors.{tenCheck, nineCheck}

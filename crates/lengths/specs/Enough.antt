@@ -7,9 +7,9 @@ use Prim.Native.Nat.{ℕ, _+_, _*_, _≤_, min}
 use native.Mathlib.Nat.{min-le-right}
 use native.Mathlib.Omega.{arith}
 use lib.Dec.{ltb, nltb→le}
-use lib.ListN.{length, take, drop}
+use lib.ListN.{length, drop}
 use lib.Ieee.{Float}
-use borrow.Author.Tests.{le-ltb, lt-leb}
+use borrow.Author.Tests.{lt-leb}
 use Rattle.refusal.specs.Numbers.{after, refuse-no}
 use Rattle.refusal.specs.declared.Answer.{Answer}
 use Rattle.refusal.specs.declared.Answer.the-variants.{Done}
@@ -25,42 +25,23 @@ use Rattle.functional.specs.declared.Functional.the-variants.{Potential, GeoidH
 use Rattle.functional.specs.Factor.{lacksLove, factorOf, factorAnswer, factor-value}
 use Rattle.coefficients.specs.Checks.{variancesCheck, amplitudesCheck, setCheck}
 use Rattle.model_file.specs.declared.FileHead.{FileHead}
-use Rattle.model_file.specs.declared.Reading.{Reading}
-use Rattle.model_file.specs.declared.Reading.the-variants.{Model}
 use lib.IntN.{ℤ, pos}
 use Rattle.coefficients.specs.Model.{dateOf}
 use Rattle.model_file.specs.Dates.{size-of-any-day}
-use Rattle.model_file.specs.Head.{headed}
-use Rattle.model_file.specs.Format.{headSize, fileSize, dateAt, headOf, refuseReading, parse, model, render}
-use Rattle.model_file.specs.Answers.{readAnswer, writeAnswer, write-done}
-use Rattle.model_file.specs.RoundTrip.{accepted, parse-table, parse-length, length-render}
-use Rattle.model_file.specs.Truncation.{head-front}
+use Rattle.model_file.specs.Format.{headSize, fileSize, render}
+use Rattle.model_file.specs.Answers.{writeAnswer, write-done}
+use Rattle.model_file.specs.RoundTrip.{length-render}
 use Rattle.legendre.specs.Checks.{mirrorCheck, mirror-done, computeCheck, compute-done}
-use Rattle.quadrature.specs.Gauss.{guessCount, gaussCheck}
-use Rattle.quadrature.specs.GaussLaws.{gauss-done}
-use Rattle.synthesis.specs.Grid.{workSize, gridCheck}
-use Rattle.synthesis.specs.Checks as grids
-use Rattle.local.specs.Point.{pointCheckOf, alongCheckOf, partialsCheck, alongCheck}
-use Rattle.local.specs.Second.{secondCheck, secondAlongCheck}
-use Rattle.point_lists.specs.Checks.{point-passed, many-passed}
+use Rattle.local.specs.Point.{pointCheckOf, partialsCheck}
+use Rattle.local.specs.Second.{secondCheck}
+use Rattle.point_lists.specs.Checks.{point-passed}
 use Rattle.analysis.specs.Analysis.{pointsOf, analysisCheck}
 use Rattle.analysis.specs.Checks.{outputs}
-use Rattle.slepian.specs.Average.{averageCheck, check-done}
-use Rattle.linalg.specs.Eigen.{eigenCheck}
-use Rattle.linalg.specs.Checks as matrices
-use Rattle.polar_cap.specs.PolarCap.{vectorsSize, capWork, capCheck}
-use Rattle.polar_cap.specs.CapChecks as caps
-use Rattle.region_nodes.specs.Basis.{basisSize}
-use Rattle.region_nodes.specs.Regions.{integrals}
-use Rattle.regions.specs.Checks.{matrixCheck}
-use Rattle.regions.specs.CheckLaws.{nodes-done, matrix-done}
-use Rattle.region.specs.Region.{regionWork, regionCheck}
-use Rattle.region.specs.RegionChecks as regions
-use Rattle.lengths.specs.Told.{sizeCheck, lengthsCheck, lengthsAfter, within}
-use Rattle.lengths.specs.Lengths.{degreeSize, twoDegrees, gridSizes, alongSizes, tablesLengths, factorLengths, truncatedLengths}
-use Rattle.lengths.specs.Lengths.{variancesLengths, amplitudesLengths, fileLengths, readLengths, writeLengths, gaussLengths, gridLengths}
-use Rattle.lengths.specs.Lengths.{averageLengths, pointLengths, partialsLengths, secondLengths, pointsLengths, alongLengths, secondAlongLengths}
-use Rattle.lengths.specs.Lengths.{analysisLengths, eigenLengths, capLengths, regionSizes, matrixLengths, regionLengths}
+use Rattle.lengths.specs.Told.{lengthsCheck, lengthsAfter, within}
+use Rattle.lengths.specs.Lengths.{degreeSize, tablesLengths, factorLengths, truncatedLengths}
+use Rattle.lengths.specs.Lengths.{variancesLengths, amplitudesLengths, writeLengths}
+use Rattle.lengths.specs.Lengths.{pointLengths, partialsLengths, secondLengths}
+use Rattle.lengths.specs.Lengths.{analysisLengths}
 
 -- ---- what a call that is done has told
 -- sizes within the limits
@@ -85,7 +66,7 @@ love-enough GravityDisturbance N = refl
 love-enough GravityAnomaly N = refl
 love-enough RadialGradient N = refl
 
-love-told : (f : Functional) (love N : ℕ) → love ≡ N + 1 → lacksLove f love N ≡ false
+pub love-told : (f : Functional) (love N : ℕ) → love ≡ N + 1 → lacksLove f love N ≡ false
 love-told f love N e = ap (λ (k : ℕ). lacksLove f k N) e ∙ love-enough f N
 
 -- ---- models and tables
@@ -93,7 +74,8 @@ module _ (N : ℕ) (ok : Done ≡ degreeSize N) where
   top : N ≤ 2700
   top = within 2700 N ok
 
-  two-tables : {c s : ℕ} → c ≡ tableSize N → s ≡ tableSize N → Done ≡ tablesCheck N c s
+  -- both tables of a call
+  pub two-tables : {c s : ℕ} → c ≡ tableSize N → s ≡ tableSize N → Done ≡ tablesCheck N c s
   two-tables {c} {s} p q = tables-done N c s top p q
 
   -- `zeros`, `legendre_new`, `legendre_grow`
@@ -240,165 +222,3 @@ module _ (N : ℕ) (ok : Done ≡ degreeSize N) where
       let q : s ≡ tableSize N = cc in
       outputs N values weights lats trig (lacksLove f love N) work c s top v w l t (love-told f love N g) (omega arith)
       (space-done (tableSize N) c s (omega arith) (omega arith))
-
--- ---- calls with other sizes
--- a call for many points
-points-enough : (k numbers N points c s radii lats trig work out : ℕ) → Done ≡ alongSizes N points
-    → c ∷ s ∷ radii ∷ lats ∷ trig ∷ work ∷ out ∷ [] ≡ pointsLengths k numbers N points
-    → Done ≡ alongCheckOf k numbers N c s points radii lats trig work out
-unfolding pointsLengths
-points-enough k numbers N points c s radii lats trig work out ok e =
-    let (few, d) = both (sizeCheck 65535 points) _ ok in
-    let p : c ≡ tableSize N = cc in
-    let q : s ≡ tableSize N = cc in
-    let i : radii ≡ points = cc in
-    let l : lats ≡ points + points = cc in
-    let t : trig ≡ points * (N + N + 2) = cc in
-    let w : work ≡ k * tableSize N = cc in
-    let o : out ≡ numbers * points = cc in
-    many-passed k numbers N c s points radii lats trig work out (within 65535 points few) (two-tables N d p q) i l t (omega arith) (omega arith)
-
--- `partials_along`
-pub along-enough : (N points c s radii lats trig work out : ℕ) → Done ≡ alongSizes N points
-    → c ∷ s ∷ radii ∷ lats ∷ trig ∷ work ∷ out ∷ [] ≡ alongLengths N points → Done ≡ alongCheck N c s points radii lats trig work out
-along-enough = points-enough 4 4
-
--- `second_partials_along`
-pub second-along-enough : (N points c s radii lats trig work out : ℕ) → Done ≡ alongSizes N points
-    → c ∷ s ∷ radii ∷ lats ∷ trig ∷ work ∷ out ∷ [] ≡ secondAlongLengths N points → Done ≡ secondAlongCheck N c s points radii lats trig work out
-second-along-enough = points-enough 5 10
-
--- `grid`
-pub grid-enough : (f : Functional) (N rows longitudes c s love lats trig work out : ℕ) → Done ≡ gridSizes N rows longitudes
-    → c ∷ s ∷ love ∷ lats ∷ trig ∷ work ∷ out ∷ [] ≡ gridLengths N rows longitudes
-    → Done ≡ gridCheck N c s rows lats longitudes trig (lacksLove f love N) work out
-unfolding gridLengths
-grid-enough f N rows longitudes c s love lats trig work out ok e =
-    let (r, few) = both (sizeCheck 65535 rows) _ ok in
-    let (m, d) = both (sizeCheck 65535 longitudes) _ few in
-    let p : c ≡ tableSize N = cc in
-    let q : s ≡ tableSize N = cc in
-    let g : love ≡ N + 1 = cc in
-    let l : lats ≡ rows + rows = cc in
-    let t : trig ≡ longitudes * (N + N + 2) = cc in
-    let w : work ≡ workSize N = cc in
-    let o : out ≡ rows * longitudes = cc in
-    grids.all-passed N c s rows lats longitudes trig (lacksLove f love N) work out (within 65535 rows r) (within 65535 longitudes m)
-    (two-tables N d p q) l t (love-told f love N g) (omega arith) (omega arith)
-
--- `basin_average`
-pub average-enough : (f : Functional) (N K c s kc ks love : ℕ) → Done ≡ twoDegrees N K → c ∷ s ∷ kc ∷ ks ∷ love ∷ [] ≡ averageLengths N K
-    → Done ≡ averageCheck N c s K kc ks (lacksLove f love (min N K))
-unfolding averageLengths
-average-enough f N K c s kc ks love ok e =
-    let (k, d) = both (degreeSize K) _ ok in
-    let p : c ≡ tableSize N = cc in
-    let q : s ≡ tableSize N = cc in
-    let u : kc ≡ tableSize K = cc in
-    let v : ks ≡ tableSize K = cc in
-    let g : love ≡ min N K + 1 = cc in
-    check-done N c s K kc ks (lacksLove f love (min N K)) (within 2700 K k) (two-tables N d p q) (two-tables K k u v) (love-told f love (min N K) g)
-
--- `gauss_legendre`
-pub gauss-enough : (n guesses x w : ℕ) → Done ≡ sizeCheck 2701 n → guesses ∷ x ∷ w ∷ [] ≡ gaussLengths n → Done ≡ gaussCheck n guesses x w
-unfolding gaussLengths
-gauss-enough n guesses x w ok e =
-    let g : guesses ≡ guessCount n = cc in
-    let p : x ≡ n = cc in
-    let q : w ≡ n = cc in
-    gauss-done n guesses x w (within 2701 n ok) g (omega arith) (omega arith)
-
--- `symmetric_eigen`, `householder_ql`
-pub eigen-enough : (n a work values vectors : ℕ) → Done ≡ sizeCheck 512 n → a ∷ work ∷ values ∷ vectors ∷ [] ≡ eigenLengths n
-    → Done ≡ eigenCheck n a work values vectors
-unfolding eigenLengths
-eigen-enough n a work values vectors ok e =
-    let p : a ≡ n * n = cc in
-    let w : work ≡ n * n + 4 * n = cc in
-    let d : values ≡ n = cc in
-    let v : vectors ≡ n * n = cc in
-    matrices.all-passed n a work values vectors (within 512 n ok) p (omega arith) (omega arith) (omega arith)
-
--- `polar_cap`
-pub cap-enough : (L weights lats work orders concentrations vectors settled : ℕ) → Done ≡ sizeCheck 180 L
-    → weights ∷ lats ∷ work ∷ orders ∷ concentrations ∷ vectors ∷ settled ∷ [] ≡ capLengths L
-    → Done ≡ capCheck L weights lats work orders concentrations vectors settled
-unfolding capLengths
-cap-enough L weights lats work orders concentrations vectors settled ok e =
-    let p : weights ≡ L + 1 = cc in
-    let q : lats ≡ L + 1 + (L + 1) = cc in
-    let w : work ≡ capWork L = cc in
-    let o : orders ≡ tableSize L = cc in
-    let k : concentrations ≡ tableSize L = cc in
-    let v : vectors ≡ vectorsSize L = cc in
-    let t : settled ≡ (L + 1) * 2 = cc in
-    caps.all-passed L weights lats work orders concentrations vectors settled (within 180 L ok) p q (omega arith) (omega arith) (omega arith)
-    (omega arith) (omega arith)
-
--- `concentration_matrix`
-pub matrix-enough : (L nodes weights lats marks s c work matrix : ℕ) → Done ≡ regionSizes L nodes
-    → weights ∷ lats ∷ marks ∷ s ∷ c ∷ work ∷ matrix ∷ [] ≡ matrixLengths L nodes
-    → Done ≡ matrixCheck L nodes weights lats marks s c work matrix
-unfolding matrixLengths integrals
-matrix-enough L nodes weights lats marks s c work matrix ok e =
-    let (top, few) = both (sizeCheck 21 L) (sizeCheck 65535 nodes) ok in
-    let p : weights ≡ nodes = cc in
-    let q : lats ≡ nodes + nodes = cc in
-    let m : marks ≡ nodes = cc in
-    let i : s ≡ nodes * integrals L = cc in
-    let j : c ≡ nodes * integrals L = cc in
-    let w : work ≡ 3 * tableSize L = cc in
-    let d : matrix ≡ basisSize L * basisSize L = cc in
-    let n = nodes-done L nodes weights lats marks s c (within 21 L top) (within 65535 nodes few) p q m i j in
-    matrix-done L nodes weights lats marks s c work matrix n (omega arith) (omega arith)
-
--- `region`
-pub region-enough : (L nodes weights lats marks s c work concentrations cs ss : ℕ) → Done ≡ regionSizes L nodes
-    → weights ∷ lats ∷ marks ∷ s ∷ c ∷ work ∷ concentrations ∷ cs ∷ ss ∷ [] ≡ regionLengths L nodes
-    → Done ≡ regionCheck L nodes weights lats marks s c work concentrations cs ss
-unfolding regionLengths integrals
-region-enough L nodes weights lats marks s c work concentrations cs ss ok e =
-    let (top, few) = both (sizeCheck 21 L) (sizeCheck 65535 nodes) ok in
-    let p : weights ≡ nodes = cc in
-    let q : lats ≡ nodes + nodes = cc in
-    let m : marks ≡ nodes = cc in
-    let i : s ≡ nodes * integrals L = cc in
-    let j : c ≡ nodes * integrals L = cc in
-    let w : work ≡ regionWork L = cc in
-    let o : concentrations ≡ basisSize L = cc in
-    let u : cs ≡ basisSize L * tableSize L = cc in
-    let v : ss ≡ basisSize L * tableSize L = cc in
-    let n = nodes-done L nodes weights lats marks s c (within 21 L top) (within 65535 nodes few) p q m i j in
-    regions.all-passed L nodes weights lats marks s c work concentrations cs ss n (omega arith) (omega arith) (omega arith) (omega arith)
-
--- ---- `model_read`
--- lists with room for what a file says
-read-room : (h : FileHead) (cs ss : List ℕ) (c s : ℕ) → length cs ≤ c → length ss ≤ s → readAnswer (model h cs ss) c s ≡ Model h
-unfolding refuseReading
-read-room h cs ss c s p q = simp (le-ltb c (length cs) p, le-ltb s (length ss) q)
-
--- an accepted file has as many bytes as are told, and is read with lists as long as told
-pub record Read (file : List ℕ) (h : FileHead) (bytes c s head : ℕ) : Type 0 where
-  pub long : length file ≡ bytes
-  pub answers : Model h ≡ readAnswer (parse file) c s
-  pub words : head ≡ 6
-
--- by its head's bytes or more
-pub read-enough : (file : List ℕ) (h : FileHead) (cs ss : List ℕ) → parse file ≡ model h cs ss → (front : ℕ) → headSize (h .date) ≤ front → front ≤ length file
-    → (bytes c s head : ℕ) → bytes ∷ c ∷ s ∷ head ∷ [] ≡ readLengths (headOf (take front file))
-    → Read file h bytes c s head
-unfolding fileLengths
-read-enough file h cs ss p front b l bytes c s head e =
-    let w = accepted file h cs ss p .head-is in
-    let size : headSize (dateAt file) ≡ headSize (h .date) = rw (headed file h w .is) refl in
-    let is = head-front front file (omega arith) l ∙ w in
-    let t = parse-table file h cs ss p in
-    let told : bytes ∷ c ∷ s ∷ head ∷ [] ≡ fileLengths (h .date) (h .nmax) = e ∙ ap (λ (r : Reading). readLengths r) is in
-    let k : bytes ≡ fileSize (h .date) (h .nmax) = cc in
-    let u : c ≡ tableSize (h .nmax) = cc in
-    let v : s ≡ tableSize (h .nmax) = cc in
-    record {
-      long = omega (arith, parse-length file h cs ss p);
-      answers = rw p (sym (read-room h cs ss c s (omega (arith, t .c-long)) (omega (arith, t .s-long))));
-      words = cc;
-    }

@@ -1,4 +1,6 @@
 pub mod Told
 pub mod Lengths
 pub mod Enough
+pub mod EnoughSizes
+pub mod EnoughFiles
 pub mod Limits
