@@ -37,8 +37,8 @@ uint32_t geopotential_version(void);
 /* What a call answers. */
 enum geopotential_answer {
     GEOPOTENTIAL_DONE = 0,
-    GEOPOTENTIAL_SIZE = 1,   /* a degree above 2700 (Gauss 2701, matrix 512, cap 180, region 21), or more than 65,535 rows, longitudes, points or
-                              * nodes */
+    GEOPOTENTIAL_SIZE = 1,   /* a degree above 2700 (Gauss 2701, matrix 512, cap 180, region 21), more than 65,535 rows, longitudes, points or
+                              * nodes, or more than 4,096 vertices */
     GEOPOTENTIAL_LENGTH = 2, /* an input list, or one that is changed in place, has not exactly its length */
     GEOPOTENTIAL_SPACE = 3,  /* an output list is shorter than its answer, or a working list too short */
     GEOPOTENTIAL_PLACE = 4,  /* an entry outside the table */
@@ -241,7 +241,8 @@ uint32_t geopotential_polar_cap(size_t lmax, double cosine, const double *weight
  * The caller lends `nodes` nodes in colatitude, at most 65,535; 0 are allowed. Of each: weights, one number; latitudes, two, sine and cosine;
  * marks, a byte: 0 skips the node, of which nothing is read, any other counts; s and c, 2L+1 numbers each, the integrals of cos(f lon) and
  * sin(f lon) over the region's longitudes there, f = 0 to 2L. Any numbers do. For a region as the published Rust integrates it, between
- * neighbouring breaks a < b in colatitude (its vertices' and extremes'), with the Gauss nodes x and weights w of the rule, in radians:
+ * neighbouring breaks a < b in colatitude (its vertices' and extremes'; for an outline polygon_breaks and polygon_intervals answer breaks and
+ * longitudes), with the Gauss nodes x and weights w of the rule, in radians:
  *     t = (x+1) pi/2,  theta = a + (b-a)(1-cos t)/2,  weight = w pi/2 (b-a) sin(t)/2 sin(theta),  latitude = pi/2 - theta,
  * and over the longitudes lo to hi that the region has there, summed: s[0] = hi - lo, c[0] = 0, and for f above 0
  *     s[f] = (sin(f hi) - sin(f lo))/f,  c[f] = (cos(f lo) - cos(f hi))/f;  mark 0 where it has none.
@@ -264,6 +265,36 @@ uint32_t geopotential_region(size_t lmax, size_t nodes, const double *weights, s
                              size_t latitudes_len, const uint8_t *marks, size_t marks_len, const double *s, size_t s_len, const double *c,
                              size_t c_len, double *work, size_t work_len, double *concentrations, size_t concentrations_len, double *cs,
                              size_t cs_len, double *ss, size_t ss_len, uint32_t *settled, size_t *count);
+/* Basins drawn as polygons. An outline is a list of vertices, at most 4,096, and 0 are allowed: of each its longitude, then its latitude, in
+ * radians. Its edges run from each vertex to the next and from the last to the first, straight in longitude and latitude; it may be concave. Any
+ * numbers do, but where an outline crosses the dateline or holds a pole its intervals are not the basin's. Longitudes may run beyond a turn: only
+ * differences matter.
+ *
+ * The longitudes inside an outline at colatitude theta, in radians: *count intervals, each its west end and then its east end, from west to east
+ * at the front of out. With the colatitude pi/2 - latitude of each vertex, the edge from (l0, c0) to (l1, c1) counts where the rounded product
+ * (c0 - theta)(c1 - theta) is below 0, so that a vertex at theta adds nothing; it is crossed at l0 + (l1 - l0)(theta - c0)/(c1 - c0), product before
+ * quotient. The crossings are ranked rising, every NaN last, and taken two by two; an unpaired last one is dropped, and an empty outline has no
+ * intervals. outline: 2 vertices; work: vertices, which are overwritten; out: 2 *count or more, and for every theta what polygon_intervals_lengths
+ * tells is enough: twice vertices/2, rounded down. Refused by 1 (more than 4,096 vertices), 2 (outline), 3 (work, then out); *count is left alone on
+ * a refusal. */
+uint32_t geopotential_polygon_intervals(size_t vertices, const double *outline, size_t outline_len, double theta, double *work,
+                                        size_t work_len, double *out, size_t out_len, size_t *count);
+/* The breaks of an outline, between which it is integrated: its vertices' colatitudes, ranked rising, every NaN last, *count of them at the front of
+ * out. Of neighbours that are equal (==) the first is kept, so every NaN stays. outline: 2 vertices; work: vertices, left as it was; out: *count or
+ * more, and `vertices` are enough. Refused by 1, 2, 3 as polygon_intervals; *count is left alone on a refusal. */
+uint32_t geopotential_polygon_breaks(size_t vertices, const double *outline, size_t outline_len, double *work, size_t work_len, double *out,
+                                     size_t out_len, size_t *count);
+/* The kernel of a basin to degree L, up to 2700, over nodes that are lent as for a region (above): 1/(4 pi) of the integrals over the basin of
+ * P(l,m) cos(m lon) in kc, and of P(l,m) sin(m lon) in ks, +0.0 at m = 0. Both are tables, used as a model's c and s with gm 1 and radius 1, tide
+ * unknown, no date, and lent to basin_average with kmax = L. Up to L = 21 they have the bits of the first row and column of the concentration matrix.
+ * The first number, kc[0], is the basin's share of the sphere as the nodes integrate it. The margin of basin_average holds where it is at most 1 in
+ * size; of a basin that is nearly the sphere it may be above, by too few nodes or by rounding. weights: nodes; latitudes: 2 nodes; marks: nodes;
+ * s, c: (2L+1) nodes, no more than the first L+1 of each node are read; work: 3T with T = (L+1)(L+2)/2, which are overwritten; kc, ks: T. Refused by
+ * 1 (L above 2700, or too many nodes), 2, 3. */
+uint32_t geopotential_basin_kernel(size_t lmax, size_t nodes, const double *weights, size_t weights_len, const double *latitudes,
+                                   size_t latitudes_len, const uint8_t *marks, size_t marks_len, const double *s, size_t s_len,
+                                   const double *c, size_t c_len, double *work, size_t work_len, double *kc, size_t kc_len, double *ks,
+                                   size_t ks_len);
 /* A functional's average over a basin by its kernel, up to the smaller degree M. c, s: T; kc, ks: the same of kmax; love: M+1 or more for water
  * heights. Where kc[0] is at most 1 in size and the value is finite, the value times kc[0] lies within (T+5)/2^53 of the sum of the terms' sizes,
  * plus (3TF+1)/2^1074, of the exact sum of its terms: factor c kc and factor s ks of all T = (M+1)(M+2)/2 pairs up to M, each by
@@ -319,6 +350,10 @@ uint32_t geopotential_polar_cap_lengths(size_t lmax, size_t *lengths, size_t len
 uint32_t geopotential_concentration_matrix_lengths(size_t lmax, size_t nodes, size_t *lengths, size_t lengths_len);
 /* weights, latitudes, marks, s, c, work, concentrations, cs, ss */
 uint32_t geopotential_region_lengths(size_t lmax, size_t nodes, size_t *lengths, size_t lengths_len);
+uint32_t geopotential_polygon_intervals_lengths(size_t vertices, size_t *lengths, size_t lengths_len); /* outline, work, out */
+uint32_t geopotential_polygon_breaks_lengths(size_t vertices, size_t *lengths, size_t lengths_len);    /* outline, work, out */
+/* weights, latitudes, marks, s, c, work, kc, ks */
+uint32_t geopotential_basin_kernel_lengths(size_t lmax, size_t nodes, size_t *lengths, size_t lengths_len);
 uint32_t geopotential_basin_average_lengths(size_t nmax, size_t kmax, size_t *lengths, size_t lengths_len); /* c, s, kc, ks, love */
 
 #ifdef __cplusplus

@@ -399,6 +399,61 @@ static void regions(void)
     free(room), free(concentrations), free(cs), free(ss);
 }
 
+/* A square with a notch from above, whose circle at the equator's colatitude cuts it once and further north twice; and its breaks. */
+static void outlines(void)
+{
+    const double square[14] = {0, -1, 4, -1, 4, 1, 3, 1, 2, 0.5, 1, 1, 0, 1}, equator = acos(-1.0) / 2;
+    size_t lengths[LISTS], count = 9;
+    CHECK(geopotential_polygon_intervals_lengths(7, lengths, LISTS) == GEOPOTENTIAL_DONE);
+    CHECK(lengths[0] == 14 && lengths[1] == 7 && lengths[2] == 6);
+    double *work = list(lengths[1]), *out = list(lengths[1]);
+    CHECK(geopotential_polygon_intervals(7, square, lengths[0], equator, work, lengths[1], out, lengths[2], &count) == GEOPOTENTIAL_DONE);
+    CHECK(count == 1 && out[0] == 0 && out[1] == 4 && out[2] == 7 && work[7] == 7);
+    CHECK(geopotential_polygon_intervals(7, square, lengths[0], equator - 0.75, work, lengths[1], out, 4, &count) == GEOPOTENTIAL_DONE);
+    CHECK(count == 2 && out[0] == 0 && fabs(out[1] - 1.5) < 1e-14 && fabs(out[2] - 2.5) < 1e-14 && out[3] == 4 && out[4] == 7);
+    free(work), free(out);
+    work = list(lengths[1]), out = list(lengths[1]), count = 9;
+    CHECK(geopotential_polygon_intervals(7, square, lengths[0], equator - 0.75, work, lengths[1], out, 3, &count) == GEOPOTENTIAL_SPACE);
+    CHECK(geopotential_polygon_breaks(7, square, lengths[0], work, lengths[1], out, 2, &count) == GEOPOTENTIAL_SPACE);
+    CHECK(geopotential_polygon_breaks(7, square, 13, work, 6, out, 3, &count) == GEOPOTENTIAL_LENGTH);
+    CHECK(geopotential_polygon_breaks(4097, square, 13, work, 6, out, 3, &count) == GEOPOTENTIAL_SIZE);
+    CHECK(count == 9 && out[0] == 7 && work[0] == 7);
+    CHECK(geopotential_polygon_breaks_lengths(7, lengths, LISTS) == GEOPOTENTIAL_DONE && lengths[0] == 14 && lengths[2] == 7);
+    CHECK(geopotential_polygon_breaks(7, square, lengths[0], work, lengths[1], out, lengths[2], &count) == GEOPOTENTIAL_DONE);
+    CHECK(count == 3 && out[0] == equator - 1 && out[1] == equator - 0.5 && out[2] == equator + 1 && out[3] == 7 && work[0] == 7);
+    CHECK(geopotential_polygon_breaks(0, none, 0, work, 0, out, 0, &count) == GEOPOTENTIAL_DONE && count == 0);
+    CHECK(geopotential_polygon_intervals_lengths(4097, lengths, LISTS) == GEOPOTENTIAL_SIZE && lengths[2] == 7);
+    CHECK(geopotential_polygon_breaks_lengths(4097, lengths, LISTS) == GEOPOTENTIAL_SIZE && lengths[2] == 7);
+    free(work), free(out);
+}
+
+/* The kernel of the whole sphere is the constant 1, of half of its longitudes a half with an odd part. */
+static void kernels(void)
+{
+    size_t lengths[LISTS];
+    CHECK(geopotential_basin_kernel_lengths(1, 3, lengths, LISTS) == GEOPOTENTIAL_DONE);
+    CHECK(lengths[1] == 6 && lengths[3] == 9 && lengths[5] == 9 && lengths[7] == 3);
+    const double node = sqrt(1.0 / 3), u = sqrt(2.0 / 3), turn = 2 * acos(-1.0);
+    const double weights[3] = {1, 1, NAN}, latitudes[6] = {-node, u, node, u, NAN, NAN};
+    const double s[9] = {turn, 0, 0, turn, 0, 0, NAN, NAN, NAN}, half[9] = {turn / 2, 0, 0, turn / 2, 0, 0, NAN, NAN, NAN};
+    const double c[9] = {0, 0, 0, 0, 0, 0, NAN, NAN, NAN}, odd[9] = {0, 2, 0, 0, 2, 0, NAN, NAN, NAN};
+    const uint8_t marks[3] = {1, 255, 0};
+    double *work = list(lengths[5]), *kc = list(lengths[6]), *ks = list(lengths[7]);
+    CHECK(geopotential_basin_kernel(1, 3, weights, lengths[0], latitudes, lengths[1], marks, lengths[2], s, lengths[3], c, lengths[4], work,
+                                    lengths[5], kc, lengths[6], ks, lengths[7]) == GEOPOTENTIAL_DONE);
+    CHECK(kc[0] == 1 && kc[1] == 0 && kc[2] == 0 && ks[0] == 0 && ks[1] == 0 && ks[2] == 0 && kc[3] == 7 && ks[3] == 7 && work[9] == 7);
+    CHECK(geopotential_basin_kernel(1, 3, weights, lengths[0], latitudes, lengths[1], marks, lengths[2], half, lengths[3], odd, lengths[4],
+                                    work, lengths[5], kc, lengths[6], ks, lengths[7]) == GEOPOTENTIAL_DONE);
+    CHECK(kc[0] == 0.5 && ks[0] == 0 && !signbit(ks[0]) && fabs(ks[2] - 2 * sqrt(2.0) / turn) < 1e-15);
+    kc[0] = 7;
+    CHECK(geopotential_basin_kernel(1, 3, weights, lengths[0], latitudes, lengths[1], marks, lengths[2], s, lengths[3], c, lengths[4], work,
+                                    lengths[5], kc, lengths[6], ks, 2) == GEOPOTENTIAL_SPACE &&
+          kc[0] == 7);
+    CHECK(geopotential_basin_kernel_lengths(2701, 3, lengths, LISTS) == GEOPOTENTIAL_SIZE && lengths[3] == 9);
+    CHECK(geopotential_basin_kernel_lengths(1, 65536, lengths, LISTS) == GEOPOTENTIAL_SIZE && lengths[3] == 9);
+    free(work), free(kc), free(ks);
+}
+
 static void averages(void)
 {
     size_t lengths[LISTS];
@@ -428,6 +483,8 @@ int main(void)
     eigenvalues();
     caps();
     regions();
+    outlines();
+    kernels();
     averages();
     printf("header: %u facts checked, %u do not hold\n", checks, failures);
     return failures != 0;

@@ -22,6 +22,7 @@ pub fn bytes(comment: &str, name: &str, bytes: &[u8]) -> String {
 
 fn array_of(element: &str, comment: &str, name: &str, numbers: &[String]) -> String {
     let line = numbers.join(", ");
-    let list = if line.len() <= 58 { line } else { format!("\n    {},\n", numbers.join(",\n    ")) };
-    format!("\n// {comment}\npub const {name}: [{element}; {}] = [{list}];\n", numbers.len())
+    let constant = |list: &str| format!("pub const {name}: [{element}; {}] = [{list}];", numbers.len());
+    let short = line.len() <= 58 && constant(&line).len() <= 100;
+    format!("\n// {comment}\n{}\n", if short { constant(&line) } else { constant(&format!("\n    {},\n", numbers.join(",\n    "))) })
 }

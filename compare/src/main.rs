@@ -1,6 +1,7 @@
 //! Holds the proved library against the oracle, the published Rust with document 01's stand-ins.
 
 mod analysis;
+mod basin_kernel;
 mod cases;
 mod coefficients;
 mod constants;
@@ -18,6 +19,7 @@ mod number;
 mod oracle_check;
 mod partials;
 mod points;
+mod polygon;
 mod refusal;
 mod refusals;
 mod second_partials;
@@ -39,9 +41,10 @@ usage: compare [--seed NUMBER] [--quick] [SUBJECT...]   same bits as the oracle,
        compare bench [SUBJECT...]                       ours, the Rust's, their ratio
        compare replay SUBJECT FILE                      write the oracle's answers as Rattle constants
        compare margins FILE [COUNT [SEED]]              write values and their sums' numbers, for margins.py
-subjects: number, functional, coefficients, model_file, legendre, synthesis, partials, second_partials, analysis, linalg, slepian, lengths;
-          for replay also mirror, refusals, refusals_files, refusals_fields, refusals_points, refusals_c, regions, refusals_regions, values_c,
-          solvers_c";
+subjects: number, functional, coefficients, model_file, legendre, synthesis, partials, second_partials, analysis, linalg, slepian, polygon,
+          basin_kernel, lengths;
+          for replay also mirror, refusals, refusals_files, refusals_fields, refusals_points, refusals_c, regions, refusals_regions,
+          refusals_basins, values_c, solvers_c";
 
 /// One crate of the library: what can be done with it here.
 struct Subject {
@@ -88,6 +91,13 @@ const SUBJECTS: &[Subject] = &[
     Subject { name: "analysis", compare: analysis::compare, bench: Some(analysis::bench::bench), replay: Some(analysis::replay::replay) },
     Subject { name: "linalg", compare: linalg::compare, bench: Some(linalg::bench::bench), replay: Some(linalg::replay::replay) },
     Subject { name: "slepian", compare: slepian::compare, bench: Some(slepian::bench::bench), replay: Some(slepian::replay::replay) },
+    Subject { name: "polygon", compare: polygon::compare, bench: Some(polygon::bench::bench), replay: Some(polygon::replay::replay) },
+    Subject {
+        name: "basin_kernel",
+        compare: basin_kernel::compare,
+        bench: Some(basin_kernel::bench::bench),
+        replay: Some(basin_kernel::replay::replay),
+    },
     Subject { name: "lengths", compare: lengths::compare, bench: None, replay: None },
     Subject { name: "refusals", compare: |_| (), bench: None, replay: Some(refusals::models::replay) },
     Subject { name: "refusals_files", compare: |_| (), bench: None, replay: Some(refusals::files::replay) },
@@ -97,6 +107,7 @@ const SUBJECTS: &[Subject] = &[
     Subject { name: "mirror", compare: |_| (), bench: None, replay: Some(legendre::mirror_replay::replay) },
     Subject { name: "regions", compare: |_| (), bench: None, replay: Some(slepian::region_replay::replay) },
     Subject { name: "refusals_regions", compare: |_| (), bench: None, replay: Some(refusals::regions::replay) },
+    Subject { name: "refusals_basins", compare: |_| (), bench: None, replay: Some(refusals::basins::replay) },
     Subject { name: "values_c", compare: |_| (), bench: None, replay: Some(refusals::values::replay) },
     Subject { name: "solvers_c", compare: |_| (), bench: None, replay: Some(refusals::solvers::replay) },
 ];

@@ -1,7 +1,9 @@
 //! That the oracle itself works: document 01's marked values, and laws that the edited files must still meet.
 
+use core::f64::consts::FRAC_PI_2;
+
 use oracle::linalg::{householder_ql, symmetric_eigen};
-use oracle::slepian::{basin_average, basin_kernel, cap, concentration_matrix, polar_cap};
+use oracle::slepian::{basin_average, basin_kernel, cap, concentration_matrix, polar_cap, polygon};
 use oracle::standins::{Node, Number, Total, falling, tricomi};
 use oracle::{Coefficients, Functional, Legendre, gauss_grid, gauss_legendre, legendre};
 
@@ -32,6 +34,7 @@ pub fn check(report: &mut Report) {
         fields(tally, cases);
         solvers(tally, cases);
         slepian(tally);
+        outlines(tally);
     });
 }
 
@@ -157,6 +160,17 @@ fn slepian(tally: &mut Tally) {
         let (intervals, breaks) = cap(colat, lon, 40f64.to_radians());
         matrix_and_kernel(tally, lmax, &nodes_of(lmax, &intervals, &breaks, 40), shannon);
     }
+}
+
+/// A square, and outlines whose crossings or colatitudes are NaN, which rank last.
+fn outlines(tally: &mut Tally) {
+    let (square, of_square) = polygon(&[(0.0, -1.0), (2.0, -1.0), (2.0, 1.0), (0.0, 1.0)]);
+    tally.holds(square(FRAC_PI_2) == [(0.0, 2.0)] && square(FRAC_PI_2 - 1.0).is_empty(), "the intervals of a square");
+    tally.holds(of_square == [FRAC_PI_2 - 1.0, FRAC_PI_2 + 1.0], "the breaks of a square");
+    let ends = polygon(&[(f64::NEG_INFINITY, 1.0), (-0.2131151305925587, -0.5)]).0(0.6391941977148541);
+    tally.holds(ends.len() == 1 && ends[0].0 == f64::NEG_INFINITY && ends[0].1.is_nan(), "a crossing that is NaN comes last");
+    let breaks = polygon(&[(0.0, f64::NAN), (0.0, -1.0), (0.0, f64::NAN)]).1;
+    tally.holds(breaks.len() == 3 && breaks[0] == FRAC_PI_2 + 1.0 && breaks[2].is_nan(), "every break that is NaN stays and comes last");
 }
 
 fn matrix_and_kernel(tally: &mut Tally, lmax: usize, nodes: &[Node], shannon: f64) {

@@ -1,6 +1,7 @@
 //! Holds the Rust bindings, which take radians, against the oracle lent the same sines and cosines, bit for bit, but that a mirrored zero
 //! may have either sign; then against the published crate itself, its files unchanged, where differences are told and not asserted.
 
+mod basins;
 mod fields;
 mod inputs;
 mod matrices;
@@ -51,6 +52,7 @@ fn main() -> ExitCode {
     fields::compare(&mut report);
     points::compare(&mut report);
     matrices::compare(&mut report);
+    basins::compare(&mut report);
     println!("against the unchanged published crate: differences are told, and change no exit status");
     unchanged::compare(&mut Report::new(seed, divisor));
     if report.all_same() { ExitCode::SUCCESS } else { ExitCode::FAILURE }

@@ -1,7 +1,8 @@
 //! The same program, compiled against the bindings and against the published crate with its files unchanged. It names no date, which
-//! the published type has not: its fields have none, and `==` answers as published. Of these calls the stand-ins touch two things: a
-//! sum of a grid starts at +0.0, so a zero may have another sign, and a tensor's tan is t/u, which has a part in its entries ee and
-//! ne. Solver and caps have another `hypot` and are left to the oracle.
+//! the published type has not: its fields have none, and `==` answers as published. Of these calls the stand-ins touch three things: a
+//! sum of a grid starts at +0.0, so a zero may have another sign; a tensor's tan is t/u, which has a part in its entries ee and
+//! ne; and a polygon's cuts and breaks that are NaN stand last, whatever their sign. Solver and caps have another `hypot` and are left to
+//! the oracle.
 
 use geopotential::Legendre;
 
@@ -38,6 +39,17 @@ impl Input {
         Input { nmax, gm, radius, c, s, love, r, cut, again, lats: angles(cases, rows), lons: angles(cases, columns), values }
     }
 
+    /// An outline with a vertex for each pair of the field.
+    fn vertices(&self) -> Vec<(f64, f64)> {
+        self.c.iter().zip(&self.s).map(|(&c, &s)| (6.0 * c, 3.0 * s)).collect()
+    }
+
+    /// The same with other numbers for NaN and those above 1e9 in size: no cut of the outline and no break is NaN then.
+    fn bounded(&self) -> Self {
+        let bounded = |list: &[f64]| list.iter().map(|&x| if x.abs() <= 1e9 { x } else { 1.0 / x.abs().max(1.0) }).collect();
+        Input { c: bounded(&self.c), s: bounded(&self.s), lats: bounded(&self.lats), ..self.clone() }
+    }
+
     /// The latitudes negated, all else as it is.
     fn negated(&self) -> Self {
         Input { lats: self.lats.iter().map(|lat| -lat).collect(), ..self.clone() }
@@ -48,7 +60,9 @@ impl Input {
 macro_rules! program {
     ($name:ident, $library:ident) => {
         mod $name {
-            use $library::slepian::{basin_average, cap, concentration_matrix};
+            use core::f64::consts::FRAC_PI_2;
+
+            use $library::slepian::{basin_average, basin_kernel, cap, concentration_matrix, polygon};
             use $library::{Coefficients, Functional, Legendre, Partials, SecondPartials, TideSystem, gauss_grid, gauss_legendre};
 
             use super::Input;
@@ -168,6 +182,39 @@ macro_rules! program {
                 concentration_matrix(lmax, &intervals, &breaks, 2 + input.cut % 5).into_iter().chain(band).collect()
             }
 
+            /// An outline's breaks, and its intervals at colatitudes of the input and of some vertices.
+            fn drawn(input: &Input) -> (Vec<f64>, Vec<Vec<(f64, f64)>>) {
+                let vertices = input.vertices();
+                let (intervals, breaks) = polygon(&vertices);
+                let lats = input.lats.iter().copied().chain(vertices.iter().map(|&(_, lat)| lat).take(9));
+                (breaks, lats.map(|lat| intervals(FRAC_PI_2 - lat)).collect())
+            }
+
+            pub fn outline(input: &Input) -> Vec<f64> {
+                let (breaks, at) = drawn(input);
+                let ends = at.iter().flat_map(|at| [(at.len() as f64, 0.0)].into_iter().chain(at.iter().copied()));
+                breaks.into_iter().chain(ends.flat_map(|(west, east)| [west, east])).collect()
+            }
+
+            /// Of an outline what does not hang on the rank of a NaN: the breaks, each NaN at the end, and how many intervals there are.
+            pub fn counts(input: &Input) -> Vec<f64> {
+                let (breaks, at) = drawn(input);
+                let (nan, numbers): (Vec<f64>, Vec<f64>) = breaks.into_iter().partition(|x| x.is_nan());
+                numbers.into_iter().chain(nan).chain(at.iter().map(|at| at.len() as f64)).collect()
+            }
+
+            /// The kernels of a drawn basin and of a cap, and a field's averages by the first.
+            pub fn kernels(input: &Input) -> Vec<f64> {
+                let vertices = input.vertices();
+                let (basin, breaks) = polygon(&vertices[..vertices.len().min(12)]);
+                let drawn = basin_kernel(input.nmax, &basin, &breaks, 2 + input.cut % 5);
+                let (intervals, breaks) = cap(3.0 * input.r.fract().abs(), input.gm, 1.5 * input.radius.fract().abs());
+                let round = basin_kernel(input.again, &intervals, &breaks, 4);
+                let (field, averages) = (field(input), functionals(input));
+                let averages = averages.iter().map(|f| basin_average(&field, &drawn, f, input.r));
+                numbers(&drawn).into_iter().chain(numbers(&round)).chain(averages).collect()
+            }
+
             pub fn average(input: &Input) -> Vec<f64> {
                 let field = field(input);
                 functionals(input).iter().map(|f| basin_average(&field, &field.truncated(input.cut), f, input.r)).collect()
@@ -222,6 +269,9 @@ const PARTS: &[(&str, Program, Program)] = &[
     ("analysis", ours::analysis, theirs::analysis),
     ("basin_average", ours::average, theirs::average),
     ("concentration_matrix", ours::matrix, theirs::matrix),
+    ("polygon, NaN apart", ours::counts, theirs::counts),
+    ("polygon, no NaN", |input| ours::outline(&input.bounded()), |input| theirs::outline(&input.bounded())),
+    ("basin_kernel, no NaN", |input| ours::kernels(&input.bounded()), |input| theirs::kernels(&input.bounded())),
 ];
 
 /// Of each tensor's nine entries those that no tangent has a part in: nn, nu, eu, un, ue, uu.

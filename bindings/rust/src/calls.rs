@@ -2,6 +2,7 @@
 //! worked out here. What makes a call safe is the same everywhere: a pointer and a length are one slice's (never null, aligned,
 //! for an empty slice too), a list that is written is borrowed mutably and so overlaps no other, and an entry keeps no pointer.
 
+pub mod basins;
 pub mod fields;
 pub mod files;
 pub mod lengths;

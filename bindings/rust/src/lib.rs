@@ -21,8 +21,8 @@
 //! # Refusals
 //!
 //! A call that the library can refuse has a twin `try_NAME`, which answers `Result<_, `[`Refusal`]`>`; the published name panics
-//! with the refusal's line. A call without a twin is never refused: fields and tables of a degree above [`MAX_DEGREE`] can't be
-//! made, so what is worked out from one always fits.
+//! with the refusal's line. A call without a twin is never refused: fields, tables and nodes of a degree above [`MAX_DEGREE`] can't be
+//! made, nor outlines of more than 4,096 vertices, so what is worked out from one always fits.
 //!
 //! # Added
 //!
@@ -36,18 +36,20 @@
 //! # Not ported
 //!
 //! Of the published crate: `compute_with_second_derivative` and `ddp` of [`Legendre`]; `geopotential` and `deflections` of
-//! [`Partials`]; `to_tide_system` and `TimeVariable`; `gauss` and `cholesky*` of [`linalg`]; `polygon` and `basin_kernel`
-//! of [`slepian`]; the modules `normal` and `field`; the feature `serde`.
+//! [`Partials`]; `to_tide_system` and `TimeVariable`; `gauss` and `cholesky*` of [`linalg`]; the modules `normal` and `field`; the
+//! feature `serde`.
 //!
 //! # Memory
 //!
 //! A call allocates its answer and nothing else: working lists belong to the thread, grow to what its largest call needs and are
 //! kept until it ends (4T numbers for partials and 5T for second partials, T = (N+1)(N+2)/2; a grid keeps 2N + 2 numbers for each
-//! longitude, a region 3T + 4(L+1)⁴ + 5(L+1)² beside its functions' numbers). Only [`slepian::concentration_matrix`] and
-//! [`slepian::region`] also allocate their nodes (five lists and a Gauss rule), which [`slepian::Nodes`] keeps for several calls.
+//! longitude, a region 3T + 4(L+1)⁴ + 5(L+1)² beside its functions' numbers, a kernel 3T, an outline two for each vertex). Only
+//! [`slepian::concentration_matrix`], [`slepian::region`] and [`slepian::basin_kernel`] also allocate their nodes (five lists, a Gauss
+//! rule, and the intervals at each), which [`slepian::Nodes`] keeps for several calls. A [`slepian::polygon`] owns a copy of its vertices.
 
 #![deny(unsafe_code)]
 
+mod basin;
 #[allow(unsafe_code)]
 mod calls;
 #[allow(unsafe_code)]

@@ -13,8 +13,11 @@ use crate::trigonometry::put_latitudes;
 /// Longitudes may run beyond `[0, 2π)`: only the differences matter.
 pub type Intervals<'a> = &'a dyn Fn(f64) -> Vec<(f64, f64)>;
 
-/// The nodes of a region to a degree, worked out once: [`concentration_matrix`](crate::slepian::concentration_matrix) and
-/// [`region`](crate::slepian::region) make them for each call, [`Nodes::concentration_matrix`] and [`Nodes::region`] take these.
+/// The nodes of a region to a degree, worked out once: [`concentration_matrix`](crate::slepian::concentration_matrix),
+/// [`region`](crate::slepian::region) and [`basin_kernel`](crate::slepian::basin_kernel) make them for each call,
+/// [`Nodes::concentration_matrix`], [`Nodes::region`] and [`Nodes::basin_kernel`] take these. Degrees above 21 are for kernels alone.
+///
+/// To degree `L` each has 4L + 5 numbers and a byte.
 ///
 /// ```
 /// use geopotential::slepian::{Nodes, cap};
@@ -42,7 +45,7 @@ impl Nodes {
     /// The nodes of a region to degree `lmax`: `nodes` points on each panel between neighbouring `breaks`.
     ///
     /// # Panics
-    /// If `lmax > 21`, there are more than 65,535 nodes, or more than 2701 on a panel.
+    /// If `lmax > 2700`, there are more than 65,535 nodes, or more than 2701 on a panel.
     #[track_caller]
     pub fn new(lmax: usize, intervals: Intervals, breaks: &[f64], nodes: usize) -> Self {
         or_panic(Self::try_new(lmax, intervals, breaks, nodes))
@@ -51,7 +54,7 @@ impl Nodes {
     /// [`new`](Self::new), refused instead of a panic; no interval is asked for then.
     pub fn try_new(lmax: usize, intervals: Intervals, breaks: &[f64], nodes: usize) -> Result<Self, Refusal> {
         let panels = breaks.len().saturating_sub(1);
-        let [weights, latitudes, marks, s, c, ..] = lengths::region(lmax, nodes.saturating_mul(panels))?;
+        let [weights, latitudes, marks, s, c, ..] = lengths::basin_kernel(lmax, nodes.saturating_mul(panels))?;
         let rule = if panels == 0 { Default::default() } else { try_gauss_legendre(nodes)? };
         let mut out = Nodes {
             lmax,

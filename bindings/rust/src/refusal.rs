@@ -6,7 +6,8 @@ use core::fmt;
 #[derive(Clone, Copy, Debug, PartialEq, Eq, Hash)]
 #[non_exhaustive]
 pub enum Refusal {
-    /// A degree above 2700 (Gauss rule 2701, matrix 512, cap 180, region 21), or more than 65,535 rows, longitudes, points or nodes.
+    /// A degree above 2700 (Gauss rule 2701, matrix 512, cap 180, region 21), more than 65,535 rows, longitudes, points or nodes, or more
+    /// than 4,096 vertices.
     Size,
     /// A list has not exactly the stated length.
     Length,
@@ -63,7 +64,8 @@ impl Refusal {
         match self {
             Refusal::Size => (
                 "SIZE",
-                "a degree above 2700 (Gauss rule 2701, matrix 512, cap 180, region 21), or more than 65,535 rows, longitudes, points or nodes",
+                "a degree above 2700 (Gauss rule 2701, matrix 512, cap 180, region 21), more than 65,535 rows, longitudes, points or nodes, \
+                 or more than 4,096 vertices",
             ),
             Refusal::Length => ("LENGTH", "a list has not exactly the stated length"),
             Refusal::Space => ("SPACE", "a list for an answer or for working numbers is too short"),

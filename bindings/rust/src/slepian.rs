@@ -10,9 +10,9 @@
 //! about how many of them are well concentrated. For a [`polar_cap`] the matrix is one block
 //! per order and Grünbaum's commuting matrix gives clean eigenvectors; any other [`region`] is
 //! integrated the way Simons' `kernelc` does it, exactly in longitude and by Gauss–Legendre in
-//! colatitude, here with the nodes clustered at the region's vertex colatitudes. The first row of
-//! `D` is the region's basin kernel, by which [`basin_average`] averages a field over it (Swenson
-//! & Wahr 2002, Eqs. 17–18).
+//! colatitude, here with the nodes clustered at the region's vertex colatitudes. The region's
+//! first row of `D` is its [`basin_kernel`], which averages a field over it (Swenson & Wahr
+//! 2002, Eqs. 17–18).
 //!
 //! ```
 //! use geopotential::slepian::polar_cap;
@@ -26,6 +26,7 @@
 
 use core::f64::consts::{PI, TAU};
 
+pub use crate::basin::{basin_kernel, polygon, try_basin_kernel, try_polygon};
 use crate::calls::matrices::{Ranked, RankedTables};
 use crate::calls::{fields, lengths, matrices};
 use crate::linalg::Convergence;
@@ -161,6 +162,7 @@ pub fn concentration_matrix(lmax: usize, intervals: Intervals, breaks: &[f64], n
 
 /// [`concentration_matrix`], refused instead of a panic.
 pub fn try_concentration_matrix(lmax: usize, intervals: Intervals, breaks: &[f64], nodes: usize) -> Result<Vec<f64>, Refusal> {
+    within_regions(lmax)?;
     Nodes::try_new(lmax, intervals, breaks, nodes)?.try_concentration_matrix()
 }
 
@@ -208,17 +210,27 @@ pub fn try_region_with(
     breaks: &[f64],
     nodes: usize,
 ) -> Result<(Vec<RegionSlepian>, Convergence), Refusal> {
+    within_regions(lmax)?;
     Nodes::try_new(lmax, intervals, breaks, nodes)?.try_region_with()
+}
+
+/// Refuses a degree above those of regions before an interval is asked for: nodes are made for the kernels' degrees too.
+fn within_regions(lmax: usize) -> Result<(), Refusal> {
+    lengths::region(lmax, 0).map(|_| ())
 }
 
 impl Nodes {
     /// The region's concentration matrix, as [`concentration_matrix`] answers it.
+    ///
+    /// # Panics
+    /// If the nodes are for a degree above 21 (also for [`region`](Self::region) and [`region_with`](Self::region_with)).
+    #[track_caller]
     pub fn concentration_matrix(&self) -> Vec<f64> {
         or_panic(self.try_concentration_matrix())
     }
 
-    /// Not refused: nodes of a size that is have not been made.
-    fn try_concentration_matrix(&self) -> Result<Vec<f64>, Refusal> {
+    /// [`concentration_matrix`](Self::concentration_matrix), refused instead of a panic.
+    pub fn try_concentration_matrix(&self) -> Result<Vec<f64>, Refusal> {
         let [.., work, matrix] = lengths::concentration_matrix(self.lmax, self.len())?;
         let mut out = vec![0.0; matrix];
         workspace::lend(|lists| matrices::concentration_matrix(self, lists.work.front(work), &mut out))?;
@@ -226,17 +238,24 @@ impl Nodes {
     }
 
     /// The region's Slepian functions, as [`region`] answers them.
+    #[track_caller]
     pub fn region(&self) -> Vec<RegionSlepian> {
-        self.region_with().0
+        or_panic(self.try_region())
+    }
+
+    /// [`region`](Self::region), refused instead of a panic.
+    pub fn try_region(&self) -> Result<Vec<RegionSlepian>, Refusal> {
+        self.try_region_with().map(|(functions, _)| functions)
     }
 
     /// The same with how the solver ended, as [`try_region_with`] answers them.
+    #[track_caller]
     pub fn region_with(&self) -> (Vec<RegionSlepian>, Convergence) {
         or_panic(self.try_region_with())
     }
 
-    /// Not refused either.
-    fn try_region_with(&self) -> Result<(Vec<RegionSlepian>, Convergence), Refusal> {
+    /// [`region_with`](Self::region_with), refused instead of a panic.
+    pub fn try_region_with(&self) -> Result<(Vec<RegionSlepian>, Convergence), Refusal> {
         let [.., work, concentrations, cs, ss] = lengths::region(self.lmax, self.len())?;
         workspace::lend(|lists| {
             let mut ranked = RankedTables {

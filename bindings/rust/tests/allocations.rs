@@ -5,7 +5,9 @@ use std::cell::Cell;
 use std::hint::black_box;
 
 use geopotential::linalg::{symmetric_eigen, try_symmetric_eigen_with};
-use geopotential::slepian::{Nodes, basin_average, cap, polar_cap, try_polar_cap_with};
+use geopotential::slepian::{
+    Nodes, basin_average, basin_kernel, cap, polar_cap, polygon, try_basin_kernel, try_polar_cap_with, try_polygon,
+};
 use geopotential::{Coefficients, Functional, Legendre, gauss_grid, gauss_legendre, model_file};
 
 /// The system's allocator, counting each thread's allocations.
@@ -94,4 +96,26 @@ fn tables_rules_and_matrices() {
     let nodes = Nodes::new(2, &intervals, &breaks, 6);
     assert_eq!(again(|| nodes.concentration_matrix()), 1);
     assert_eq!(again(|| nodes.region()), 19, "c and s of 9 functions, and their list");
+}
+
+#[test]
+fn drawn_basins() {
+    let outline = [(0.0, 0.0), (1.0, 0.0), (1.0, 1.0), (0.5, 0.25), (0.0, 1.0)];
+    assert_eq!(again(|| polygon(&outline)), 2, "the copy of the vertices, and the breaks");
+    assert_eq!(again(|| try_polygon(&[(0.0, 0.0); 4097]).is_err()), 0);
+    let (intervals, breaks) = polygon(&outline);
+    let (north, south) = (breaks[1] - 0.1, breaks[1] + 0.1);
+    for (theta, count) in [(north, 2), (south, 1)] {
+        assert_eq!(intervals(theta).len(), count);
+        assert_eq!(again(|| intervals(theta)), 1);
+    }
+    assert_eq!(again(|| intervals(0.0)), 0, "no interval, no list");
+    let nodes = Nodes::new(20, &intervals, &breaks, 6);
+    assert_eq!(again(|| nodes.basin_kernel()), 2, "c and s");
+    assert_eq!(
+        again(|| basin_kernel(20, &intervals, &breaks, 6)),
+        2 + 5 + 2 + 12,
+        "and five lists, a Gauss rule, the intervals at 12 nodes"
+    );
+    assert_eq!(again(|| try_basin_kernel(2701, &intervals, &breaks, 6)), 0);
 }

@@ -3,7 +3,7 @@
 use std::panic::{self, AssertUnwindSafe};
 
 use geopotential::linalg::{householder_ql, symmetric_eigen};
-use geopotential::slepian::{Nodes, basin_average, cap, concentration_matrix, polar_cap, region};
+use geopotential::slepian::{Nodes, basin_average, basin_kernel, cap, concentration_matrix, polar_cap, polygon, region};
 use geopotential::{Coefficients, Functional, Legendre, Refusal, gauss_grid, gauss_legendre};
 
 /// That a call panics with the line of a refusal.
@@ -33,6 +33,15 @@ fn sizes() {
     panics(Refusal::Size, || concentration_matrix(22, &intervals, &breaks, 3));
     panics(Refusal::Size, || region(22, &intervals, &breaks, 3));
     panics(Refusal::Size, || Nodes::new(1, &intervals, &breaks, 2702));
+    panics(Refusal::Size, || Nodes::new(2701, &intervals, &breaks, 1));
+    panics(Refusal::Size, || basin_kernel(2701, &intervals, &breaks, 1));
+    panics(Refusal::Size, || polygon(&[(0.0, 0.0); 4097]));
+    // Nodes above degree 21 are for kernels alone.
+    let nodes = Nodes::new(22, &intervals, &breaks, 3);
+    panics(Refusal::Size, || nodes.concentration_matrix());
+    panics(Refusal::Size, || nodes.region());
+    panics(Refusal::Size, || nodes.region_with());
+    assert_eq!(nodes.basin_kernel().max_degree(), 22);
 }
 
 #[test]
@@ -77,6 +86,7 @@ fn a_panic_names_the_callers_place() {
         }
     }));
     let (field, mut leg) = (Coefficients::zeros(1.0, 1.0, 0), Legendre::new(0));
+    let nodes = Nodes::new(22, &|_| vec![], &[], 0);
     let mut places = Vec::new();
     let mut place = |call: &mut dyn FnMut()| {
         assert!(panic::catch_unwind(AssertUnwindSafe(call)).is_err());
@@ -84,6 +94,11 @@ fn a_panic_names_the_callers_place() {
     };
     place(&mut || _ = field.c(1, 0));
     place(&mut || leg.grow(2701));
+    place(&mut || _ = polygon(&[(0.0, 0.0); 4097]));
+    place(&mut || _ = basin_kernel(2701, &|_| vec![], &[], 0));
+    place(&mut || _ = nodes.concentration_matrix());
+    place(&mut || _ = nodes.region());
+    place(&mut || _ = nodes.region_with());
     panic::set_hook(before);
     assert!(places.iter().all(|place| place.ends_with("panics.rs")), "{places:?}");
 }

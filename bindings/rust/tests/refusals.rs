@@ -2,7 +2,8 @@
 
 use geopotential::linalg::{try_householder_ql, try_householder_ql_with, try_symmetric_eigen, try_symmetric_eigen_with};
 use geopotential::slepian::{
-    Nodes, cap, region, try_basin_average, try_concentration_matrix, try_polar_cap, try_polar_cap_with, try_region, try_region_with,
+    Nodes, cap, region, try_basin_average, try_basin_kernel, try_concentration_matrix, try_polar_cap, try_polar_cap_with, try_polygon,
+    try_region, try_region_with,
 };
 use geopotential::{Coefficients, Functional, Legendre, MAX_DEGREE, Refusal, try_gauss_grid, try_gauss_legendre};
 
@@ -42,10 +43,37 @@ fn regions_above_their_limits() {
     for (breaks, nodes) in [(&many[..], 2521), (&many[..2], 2702), (&many[..3], usize::MAX), (&many[..], 1 << 60)] {
         assert_eq!(Nodes::try_new(0, &unasked, breaks, nodes).err(), Some(Refusal::Size), "{nodes}");
         assert_eq!(try_region_with(0, &unasked, breaks, nodes), Err(Refusal::Size), "{nodes}");
+        assert_eq!(try_basin_kernel(0, &unasked, breaks, nodes), Err(Refusal::Size), "{nodes}");
     }
     let (intervals, _) = cap(1.3, 0.0, 3.0);
     assert_eq!(Nodes::new(0, &intervals, &many, 2520).len(), 26 * 2520);
     assert!(Nodes::try_new(21, &intervals, &many[..2], 2701).is_ok());
+}
+
+#[test]
+fn kernels_and_outlines_above_their_limits() {
+    let unasked = |_: f64| -> Vec<(f64, f64)> { unreachable!("asked for an interval") };
+    for lmax in BEYOND {
+        assert_eq!(try_basin_kernel(lmax, &unasked, &[0.0, 1.0], 1), Err(Refusal::Size));
+        assert_eq!(Nodes::try_new(lmax, &unasked, &[0.0, 1.0], 1).err(), Some(Refusal::Size));
+    }
+    assert_eq!(try_polygon(&vec![(0.5, 0.5); 4097]).err(), Some(Refusal::Size));
+    assert_eq!(try_polygon(&vec![(0.5, 0.5); 65_536 + 3]).err(), Some(Refusal::Size));
+    assert!(try_polygon(&vec![(0.5, 0.5); 4096]).is_ok());
+}
+
+#[test]
+fn nodes_of_kernels_have_no_matrix() {
+    let (intervals, breaks) = cap(1.3, 0.0, 0.4);
+    for lmax in [22, 60, MAX_DEGREE] {
+        let nodes = Nodes::try_new(lmax, &intervals, &breaks[..2], 1).unwrap();
+        assert_eq!(nodes.try_concentration_matrix(), Err(Refusal::Size));
+        assert_eq!(nodes.try_region(), Err(Refusal::Size));
+        assert_eq!(nodes.try_region_with(), Err(Refusal::Size));
+        assert_eq!(nodes.basin_kernel().max_degree(), lmax);
+    }
+    let nodes = Nodes::new(21, &intervals, &breaks[..2], 1);
+    assert_eq!(nodes.try_concentration_matrix().map(|matrix| matrix.len()), Ok(484 * 484));
 }
 
 #[test]

@@ -3,6 +3,7 @@
 use crate::cases::Cases;
 use crate::entries::*;
 use crate::guarded::Guarded;
+use crate::polygon::MAX_VERTICES;
 use crate::refusal::{KIND, MAX_DEGREE, SHORT, SIZE, SPACE, TIDE, fault, pairs};
 use crate::tally::{Report, Tally};
 
@@ -102,6 +103,22 @@ fn region(sizes: &[usize]) -> Vec<u128> {
     [nodes(sizes), vec![work, functions, functions * t, functions * t]].concat()
 }
 
+fn kernel(sizes: &[usize]) -> Vec<u128> {
+    let t = pairs(sizes[0]);
+    [nodes(sizes), vec![3 * t, t, t]].concat()
+}
+
+/// An outline of so many vertices, and the most intervals or breaks that it can have.
+fn intervals(sizes: &[usize]) -> Vec<u128> {
+    let vertices = sizes[0] as u128;
+    vec![2 * vertices, vertices, vertices - vertices % 2]
+}
+
+fn breaks(sizes: &[usize]) -> Vec<u128> {
+    let vertices = sizes[0] as u128;
+    vec![2 * vertices, vertices, vertices]
+}
+
 fn average(sizes: &[usize]) -> Vec<u128> {
     let (t, kernel) = (pairs(sizes[0]), pairs(sizes[1]));
     vec![t, t, kernel, kernel, rows(sizes[0].min(sizes[1]))]
@@ -179,6 +196,9 @@ const TOLD: &[Told] = &[
         due: concentration_matrix,
     },
     Told { name: "region", entry: Two(geopotential_region_lengths), limits: &[21, MAX_LINES], due: region },
+    Told { name: "polygon_intervals", entry: One(geopotential_polygon_intervals_lengths), limits: &[MAX_VERTICES], due: intervals },
+    Told { name: "polygon_breaks", entry: One(geopotential_polygon_breaks_lengths), limits: &[MAX_VERTICES], due: breaks },
+    Told { name: "basin_kernel", entry: Two(geopotential_basin_kernel_lengths), limits: &[MAX_DEGREE, MAX_LINES], due: kernel },
     Told { name: "basin_average", entry: Two(geopotential_basin_average_lengths), limits: &[MAX_DEGREE, MAX_DEGREE], due: average },
 ];
 
@@ -214,7 +234,7 @@ fn all_sizes(tally: &mut Tally, told: &Told) {
 
 /// One answer, into lists of lengths that are long enough and into shorter ones. No entry tells more than 9 lengths.
 fn one(tally: &mut Tally, name: &str, due: Result<&[u128], u32>, call: impl Fn(&mut Guarded<usize>) -> u32, input: impl Fn() -> String) {
-    for room in [0, 1, 3, 4, 6, 7, 8, 9, 11] {
+    for room in [0, 1, 2, 3, 4, 6, 7, 8, 9, 11] {
         let mut lengths = Guarded::marked(room);
         let number = call(&mut lengths);
         let (refusal, answer) = match due {

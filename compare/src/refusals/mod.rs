@@ -1,6 +1,7 @@
 //! Cases for the programs that replay refusals: sizes and lengths about the stated ones, and what is due by the statement of document 01's table
 //! (`refusal.rs`). A case is a row of numbers; due are the number of the refusal, and which places of the lists that are lent to be written change.
 
+pub mod basins;
 pub mod entries;
 pub mod fields;
 pub mod files;

@@ -11,7 +11,7 @@ const WIDTH: usize = 12;
 const LIMITS: [usize; 2] = [21, 65_535];
 
 /// The five lists of the nodes. Sizes that are refused need no lengths of their own.
-fn nodes(n: &[usize]) -> (u128, Vec<(Kind, u128)>) {
+pub(super) fn nodes(n: &[usize]) -> (u128, Vec<(Kind, u128)>) {
     let (k, nodes) = (n[0].min(1 << 20) as u128 + 1, n[1] as u128);
     let integrals = (2 * k - 1) * nodes;
     (k, vec![(Input, nodes), (Input, 2 * nodes), (Input, nodes), (Input, integrals), (Input, integrals)])
@@ -43,10 +43,10 @@ const REGION: Call =
     Call { name: "region", limits: &LIMITS, small: &[&[0, 0], &[0, 1], &[0, 3], &[0, 2]], functionals: &[], lists: region };
 
 /// The cases of a call, and sizes of 33 and of 64 bits whose low ones are the base's.
-fn cases(call: &Call) -> Vec<Case> {
+pub(super) fn cases(call: &Call) -> Vec<Case> {
     let mut cases = call.cases();
     for high in [1 << 32, 1 << 63] {
-        for place in [0, 1] {
+        for place in 0..call.limits.len() {
             let mut case = call.base();
             case.sizes[place] += high;
             cases.push(case);

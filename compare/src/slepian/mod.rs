@@ -3,7 +3,7 @@
 pub mod bench;
 pub mod caps;
 pub mod region_replay;
-mod regions;
+pub mod regions;
 pub mod replay;
 
 use oracle::Coefficients;

@@ -25,12 +25,12 @@ fn skipped(lmax: usize) -> Node {
     Node { weight: f64::NAN, lat: (f64::INFINITY, f64::NAN), mark: 0, s: strange.clone(), c: strange }
 }
 
-fn ordinary(lmax: usize) -> Region {
+pub fn ordinary(lmax: usize) -> Region {
     Region { lmax, nodes: vec![node(lmax, 0, 1), skipped(lmax), node(lmax, 2, 255)] }
 }
 
 /// Sums that overflow before they are halved, products that do or vanish, and zeros of either sign.
-fn strange() -> Region {
+pub fn strange() -> Region {
     let mut nodes = ordinary(1).nodes;
     (nodes[0].weight, nodes[2].weight) = (1e-300, -0.0);
     (nodes[0].s, nodes[0].c) = (vec![1.5e308, 1e308, -1.2e308], vec![-0.0, 0.0, -0.0]);
@@ -39,7 +39,7 @@ fn strange() -> Region {
 }
 
 /// Products that overflow unless the sum is halved before them, and quotients of subnormal numbers.
-fn large() -> Region {
+pub fn large() -> Region {
     let mut of = strange();
     (of.nodes[0].weight, of.nodes[2].weight) = (1.5, 0.75);
     of.nodes[0].s = vec![0.8e308, 1e308, 1.2e308];

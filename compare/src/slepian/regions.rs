@@ -20,8 +20,8 @@ const FUNCTIONS: u64 = 50_000;
 const BASINS: u64 = 400;
 
 /// The largest degree, and the most nodes.
-const MAX_REGION: usize = 21;
-const MAX_NODES: usize = 65_535;
+pub const MAX_REGION: usize = 21;
+pub const MAX_NODES: usize = 65_535;
 /// The nodes that count in the largest region: the first, a middle one and the last.
 const COUNTED: [usize; 3] = [0, MAX_NODES / 2, MAX_NODES - 1];
 
@@ -55,8 +55,14 @@ impl Region {
         self.nodes.iter().flat_map(|node| node.c.iter().copied()).collect()
     }
 
+    /// A basin by its outline; `count` nodes on each panel.
+    pub fn of_outline(lmax: usize, outline: &[(f64, f64)], count: usize) -> Self {
+        let (intervals, breaks) = polygon(outline);
+        Region { lmax, nodes: nodes_of(lmax, &intervals, &breaks, count) }
+    }
+
     /// An outline of so many vertices about a point, as a river basin has it; `count` nodes on each panel.
-    pub fn drawn(lmax: usize, vertices: usize, count: usize, shape: impl Fn(f64) -> f64) -> Self {
+    fn drawn(lmax: usize, vertices: usize, count: usize, shape: impl Fn(f64) -> f64) -> Self {
         let outline: Vec<(f64, f64)> = (0..vertices)
             .map(|k| {
                 let angle = 2.0 * PI * k as f64 / vertices as f64;
@@ -64,8 +70,7 @@ impl Region {
                 (1.1 + r * angle.cos(), 0.35 + 0.8 * r * angle.sin())
             })
             .collect();
-        let (intervals, breaks) = polygon(&outline);
-        Region { lmax, nodes: nodes_of(lmax, &intervals, &breaks, count) }
+        Self::of_outline(lmax, &outline, count)
     }
 
     /// The basin of 60 vertices and 472 nodes that times are taken with.
@@ -74,7 +79,7 @@ impl Region {
     }
 
     /// Nodes that are no region's.
-    fn any(cases: &mut Cases, lmax: usize, count: usize) -> Self {
+    pub fn any(cases: &mut Cases, lmax: usize, count: usize) -> Self {
         let kind = cases.below(4);
         let number = |cases: &mut Cases| match kind {
             0 => cases.number(),
@@ -93,7 +98,7 @@ impl Region {
     }
 
     /// The most nodes at the largest degree, all skipped but three.
-    fn largest(cases: &mut Cases) -> Self {
+    pub fn largest(cases: &mut Cases) -> Self {
         let node = |place: usize| ordinary(cases, MAX_REGION, u8::from(COUNTED.contains(&place)));
         Region { lmax: MAX_REGION, nodes: (0..MAX_NODES).map(node).collect() }
     }

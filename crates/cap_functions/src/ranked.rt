@@ -52,7 +52,7 @@ fn write_functions(
     lmax: usize,
     n: usize,
     at: usize,
-    places: &[usize],
+    places: &[u16],
     order: &[usize],
     starts: &[usize],
     work: &[f64],
@@ -66,7 +66,7 @@ fn write_functions(
 {
     let mut i = 0;
     while i < n {
-        let f = places[i];
+        let f = ranking::index(places[i]);
         let m = order[f];
         orders[i] = m as f64;
         concentrations[i] = work[at + f];
@@ -78,7 +78,7 @@ fn write_functions(
 fn write_vectors(
     lmax: usize,
     n: usize,
-    places: &[usize],
+    places: &[u16],
     order: &[usize],
     starts: &[usize],
     work: &[f64],
@@ -94,7 +94,7 @@ fn write_vectors(
     let mut v = 0;
     let mut i = 0;
     while i < n {
-        let f = places[i];
+        let f = ranking::index(places[i]);
         let m = order[f];
         let k = lmax - m + 1;
         crate::copy_run(k, starts[f], work, v, vectors);
@@ -111,8 +111,8 @@ pub fn write(
     order: &[usize],
     starts: &[usize],
     work: &[f64],
-    places: &mut [usize],
-    spare: &mut [usize],
+    places: &mut [u16],
+    spare: &mut [u16],
     orders: &mut [f64],
     concentrations: &mut [f64],
     vectors: &mut [f64],

@@ -8,3 +8,4 @@ pub mod Tensors
 pub mod Analyses
 pub mod Lists
 pub mod Matrices
+pub mod Basins

@@ -5,6 +5,7 @@
 // is its number; numbers that are answered go through pointers at the end and are left alone on a refusal; the result is the
 // refusal's number, 0 where the call is done. Calls that can't refuse return their number.
 pub mod analyses;
+pub mod basins;
 pub mod caps;
 pub mod fields;
 pub mod files;

@@ -9,7 +9,7 @@ ghost use Rattle.lengths.specs.Told.{sizeCheck, lengthsCheck, lengthsAfter};
 ghost use Rattle.lengths.specs.Lengths.{degreeSize, twoDegrees, gridSizes, alongSizes, readSizes, tablesLengths, factorLengths, truncatedLengths};
 ghost use Rattle.lengths.specs.Lengths.{variancesLengths, amplitudesLengths, readLengths, writeLengths, gaussLengths, gridLengths, averageLengths};
 ghost use Rattle.lengths.specs.Lengths.{partialsLengths, alongLengths, threeLengths, secondLengths, secondAlongLengths, nineLengths, analysisLengths, eigenLengths};
-ghost use Rattle.lengths.specs.Lengths.{capLengths, regionSizes, matrixLengths, regionLengths};
+ghost use Rattle.lengths.specs.Lengths.{capLengths, regionSizes, matrixLengths, regionLengths, intervalsLengths, breaksLengths, kernelSizes, kernelLengths};
 
 #[no_mangle]
 pub extern "C" fn geopotential_factor_lengths(n: usize, lengths: &mut [usize]) -> u32
@@ -323,4 +323,35 @@ pub extern "C" fn geopotential_region_lengths(
     ensures { λ x. ⌜ now (lengths .exit) ≡ lengthsAfter (regionSizes lmax nodes) (regionLengths lmax nodes) (now (lengths .entry)) ⌝ }
 {
     refusal::answer_number(lengths::region(lmax, nodes, lengths))
+}
+
+#[no_mangle]
+pub extern "C" fn geopotential_polygon_intervals_lengths(
+    vertices: usize,
+    lengths: &mut [usize],
+) -> u32
+    ensures { λ x. ⌜ x ≡ answerNumber (lengthsCheck (sizeCheck 4096 vertices) (intervalsLengths vertices) (length (now (lengths .entry)))) ⌝ }
+    ensures { λ x. ⌜ now (lengths .exit) ≡ lengthsAfter (sizeCheck 4096 vertices) (intervalsLengths vertices) (now (lengths .entry)) ⌝ }
+{
+    refusal::answer_number(lengths::polygon_intervals(vertices, lengths))
+}
+
+#[no_mangle]
+pub extern "C" fn geopotential_polygon_breaks_lengths(vertices: usize, lengths: &mut [usize]) -> u32
+    ensures { λ x. ⌜ x ≡ answerNumber (lengthsCheck (sizeCheck 4096 vertices) (breaksLengths vertices) (length (now (lengths .entry)))) ⌝ }
+    ensures { λ x. ⌜ now (lengths .exit) ≡ lengthsAfter (sizeCheck 4096 vertices) (breaksLengths vertices) (now (lengths .entry)) ⌝ }
+{
+    refusal::answer_number(lengths::polygon_breaks(vertices, lengths))
+}
+
+#[no_mangle]
+pub extern "C" fn geopotential_basin_kernel_lengths(
+    lmax: usize,
+    nodes: usize,
+    lengths: &mut [usize],
+) -> u32
+    ensures { λ x. ⌜ x ≡ answerNumber (lengthsCheck (kernelSizes lmax nodes) (kernelLengths lmax nodes) (length (now (lengths .entry)))) ⌝ }
+    ensures { λ x. ⌜ now (lengths .exit) ≡ lengthsAfter (kernelSizes lmax nodes) (kernelLengths lmax nodes) (now (lengths .entry)) ⌝ }
+{
+    refusal::answer_number(lengths::basin_kernel(lmax, nodes, lengths))
 }

@@ -141,7 +141,7 @@ matrix-enough L nodes weights lats marks s c work matrix ok e =
     let j : c ≡ nodes * integrals L = cc in
     let w : work ≡ 3 * tableSize L = cc in
     let d : matrix ≡ basisSize L * basisSize L = cc in
-    let n = nodes-done L nodes weights lats marks s c (within 21 L top) (within 65535 nodes few) p q m i j in
+    let n = nodes-done 21 L nodes weights lats marks s c (within 21 L top) (within 65535 nodes few) p q m i j in
     matrix-done L nodes weights lats marks s c work matrix n (omega arith) (omega arith)
 
 -- `region`
@@ -160,5 +160,5 @@ region-enough L nodes weights lats marks s c work concentrations cs ss ok e =
     let o : concentrations ≡ basisSize L = cc in
     let u : cs ≡ basisSize L * tableSize L = cc in
     let v : ss ≡ basisSize L * tableSize L = cc in
-    let n = nodes-done L nodes weights lats marks s c (within 21 L top) (within 65535 nodes few) p q m i j in
+    let n = nodes-done 21 L nodes weights lats marks s c (within 21 L top) (within 65535 nodes few) p q m i j in
     regions.all-passed L nodes weights lats marks s c work concentrations cs ss n (omega arith) (omega arith) (omega arith) (omega arith)

@@ -2,7 +2,7 @@
 -- need; other functionals read none. Assumes nothing.
 use mathlib.Core.Path.{_≡_, refl}
 use mathlib.Core.List.{List, [], _∷_}
-use Prim.Native.Nat.{ℕ, zero, suc, _+_, _*_, _≤_, min}
+use Prim.Native.Nat.{ℕ, zero, suc, _+_, _*_, _/_, _≤_, min}
 use native.Mathlib.Omega.{arith}
 use lib.ListN.{take}
 use Rattle.refusal.specs.declared.Answer.{Answer}
@@ -154,6 +154,24 @@ regionLengths L nodes =
     nodes ∷ (nodes + nodes) ∷ nodes ∷ (nodes * integrals L) ∷ (nodes * integrals L) ∷ regionWork L ∷ basisSize L ∷ (basisSize L * tableSize L)
     ∷ (basisSize L * tableSize L) ∷ []
 
+-- ---- outlines and kernels
+-- the outline, work, out: there are no more intervals than half as many as vertices
+unfoldable pub intervalsLengths : ℕ → List ℕ
+intervalsLengths v = (v + v) ∷ v ∷ (v / 2 * 2) ∷ []
+
+-- the outline, work, out
+unfoldable pub breaksLengths : ℕ → List ℕ
+breaksLengths v = (v + v) ∷ v ∷ v ∷ []
+
+-- SIZE of the degree and of the nodes
+abbrev pub kernelSizes : (L nodes : ℕ) → Answer
+kernelSizes L nodes = degreeSize L andThen sizeCheck 65535 nodes
+
+-- weights, latitudes, marks, s, c, work, kc, ks
+unfoldable pub kernelLengths : (L nodes : ℕ) → List ℕ
+kernelLengths L nodes =
+    nodes ∷ (nodes + nodes) ∷ nodes ∷ (nodes * integrals L) ∷ (nodes * integrals L) ∷ (3 * tableSize L) ∷ tableSize L ∷ tableSize L ∷ []
+
 -- ---- as the code has them
 -- the first of four tables
 pub tables-told : {size : ℕ} (N count : ℕ) → count ≤ 4 → size ≡ tableSize N → take count (size ∷ size ∷ size ∷ size ∷ []) ≡ tablesLengths count N
@@ -195,3 +213,16 @@ pub region-told : (L nodes : ℕ) {integral work functions numbers : ℕ} → in
     → nodes ∷ (nodes + nodes) ∷ nodes ∷ integral ∷ integral ∷ work ∷ functions ∷ numbers ∷ numbers ∷ [] ≡ regionLengths L nodes
 unfolding regionLengths
 region-told L nodes i w f d = cc
+
+pub intervals-told : (v : ℕ) → (v + v) ∷ v ∷ (v / 2 * 2) ∷ [] ≡ intervalsLengths v
+unfolding intervalsLengths
+intervals-told v = refl
+
+pub breaks-told : (v : ℕ) → (v + v) ∷ v ∷ v ∷ [] ≡ breaksLengths v
+unfolding breaksLengths
+breaks-told v = refl
+
+pub kernel-told : (L nodes : ℕ) {integral table : ℕ} → integral ≡ nodes * integrals L → table ≡ tableSize L
+    → nodes ∷ (nodes + nodes) ∷ nodes ∷ integral ∷ integral ∷ (3 * table) ∷ table ∷ table ∷ [] ≡ kernelLengths L nodes
+unfolding kernelLengths
+kernel-told L nodes i t = cc

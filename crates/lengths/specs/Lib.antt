@@ -3,4 +3,5 @@ pub mod Lengths
 pub mod Enough
 pub mod EnoughSizes
 pub mod EnoughFiles
+pub mod EnoughBasins
 pub mod Limits

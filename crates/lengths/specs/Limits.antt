@@ -39,12 +39,16 @@ use Rattle.linalg.specs.Eigen.{eigenCheck}
 use Rattle.linalg.specs.Checks.{too-large}
 use Rattle.polar_cap.specs.PolarCap.{capCheck}
 use Rattle.polar_cap.specs.CapChecks as caps
-use Rattle.regions.specs.Checks.{nodesCheck, matrixCheck}
+use Rattle.regions.specs.Checks.{nodesCheckTo, matrixCheck}
 use Rattle.regions.specs.CheckLaws as nodes
 use Rattle.region.specs.Region.{regionCheck}
 use Rattle.region.specs.RegionChecks as regions
+use Rattle.polygon.specs.Checks.{outlineCheck}
+use Rattle.polygon.specs.CheckLaws as outlines
+use Rattle.basin_kernel.specs.Kernel.{kernelCheck}
+use Rattle.basin_kernel.specs.CheckLaws as kernels
 use Rattle.lengths.specs.Told.{sizeCheck, within}
-use Rattle.lengths.specs.Lengths.{degreeSize, twoDegrees, gridSizes, alongSizes, regionSizes}
+use Rattle.lengths.specs.Lengths.{degreeSize, twoDegrees, gridSizes, alongSizes, regionSizes, kernelSizes}
 
 beyond : (limit size : ℕ) → Refused Size ≡ sizeCheck limit size → limit < size
 unfolding sizeCheck refuse
@@ -167,24 +171,35 @@ pub cap-limit : (L weights lats work orders concentrations vectors settled : ℕ
 cap-limit L weights lats work orders concentrations vectors settled bad =
     caps.large-degree L weights lats work orders concentrations vectors settled (beyond 180 L bad)
 
-nodes-limit : (L count weights lats marks s c : ℕ) → Refused Size ≡ regionSizes L count → Refused Size ≡ nodesCheck L count weights lats marks s c
-nodes-limit L count weights lats marks s c bad =
+nodes-limit : (most L count weights lats marks s c : ℕ) → Refused Size ≡ sizeCheck most L andThen sizeCheck 65535 count
+    → Refused Size ≡ nodesCheckTo most L count weights lats marks s c
+nodes-limit most L count weights lats marks s c bad =
     ⊎-elim
-    (λ p. nodes.high-degree L count weights lats marks s c (beyond 21 L p))
-    (λ q. nodes.many-nodes L count weights lats marks s c (within 21 L (q .0)) (beyond 65535 count (q .1)))
-    (either (sizeCheck 21 L) _ bad)
+    (λ p. nodes.high-degree most L count weights lats marks s c (beyond most L p))
+    (λ q. nodes.many-nodes most L count weights lats marks s c (within most L (q .0)) (beyond 65535 count (q .1)))
+    (either (sizeCheck most L) _ bad)
 
 pub matrix-limit : (L count weights lats marks s c work matrix : ℕ) → Refused Size ≡ regionSizes L count
     → Refused Size ≡ matrixCheck L count weights lats marks s c work matrix
 matrix-limit L count weights lats marks s c work matrix bad =
-    nodes.matrix-lists L count weights lats marks s c work matrix Size (nodes-limit L count weights lats marks s c bad)
+    nodes.matrix-lists L count weights lats marks s c work matrix Size (nodes-limit 21 L count weights lats marks s c bad)
 
 pub region-limit : (L count weights lats marks s c work concentrations cs ss : ℕ) → Refused Size ≡ regionSizes L count
     → Refused Size ≡ regionCheck L count weights lats marks s c work concentrations cs ss
 region-limit L count weights lats marks s c work concentrations cs ss bad =
-    regions.nodes-refused L count weights lats marks s c work concentrations cs ss (nodes-limit L count weights lats marks s c bad)
+    regions.nodes-refused L count weights lats marks s c work concentrations cs ss (nodes-limit 21 L count weights lats marks s c bad)
 
 -- `model_read`: by the head, told by its bytes or more
 pub read-limit : (file : List ℕ) (front : ℕ) (e : Refusal) → headSize (dateAt file) ≤ front → front ≤ length file → headOf (take front file) ≡ Unread e
     → parse file ≡ fault e
 read-limit file front e b l bad = refused-by-head file (headOf file) refl e (sym (head-front front file b l) ∙ bad)
+
+-- `polygon_intervals` and `polygon_breaks`, for any number of numbers to write
+pub outline-limit : (v outline work out k : ℕ) → Refused Size ≡ sizeCheck 4096 v → Refused Size ≡ outlineCheck v outline work out k
+outline-limit v outline work out k bad =
+    outlines.refused-before v outline work out k Size (outlines.too-many v outline work (beyond 4096 v bad))
+
+pub kernel-limit : (L count weights lats marks s c work kc ks : ℕ) → Refused Size ≡ kernelSizes L count
+    → Refused Size ≡ kernelCheck L count weights lats marks s c work kc ks
+kernel-limit L count weights lats marks s c work kc ks bad =
+    kernels.wrong-lists L count weights lats marks s c work kc ks Size (nodes-limit 2700 L count weights lats marks s c bad)

@@ -14,6 +14,7 @@ ghost use Rattle.lengths.specs.Lengths.{degreeSize, twoDegrees, gridSize
 ghost use Rattle.lengths.specs.Lengths.{variancesLengths, amplitudesLengths, readLengths, writeLengths, gaussLengths, gridLengths, averageLengths};
 ghost use Rattle.lengths.specs.Lengths.{partialsLengths, alongLengths, threeLengths, secondLengths, secondAlongLengths, nineLengths};
 ghost use Rattle.lengths.specs.Lengths.{analysisLengths, eigenLengths, capLengths, regionSizes, matrixLengths, regionLengths};
+ghost use Rattle.lengths.specs.Lengths.{intervalsLengths, breaksLengths, kernelSizes, kernelLengths};
 
 // `factor`: love.
 pub fn factor(n: usize, lengths: &mut [usize]) -> Answer
@@ -415,6 +416,56 @@ pub fn region(lmax: usize, nodes: usize, lengths: &mut [usize]) -> Answer
         sizes.functions,
         sizes.numbers,
         sizes.numbers,
+    ];
+    leaves::tell(&told, lengths)
+}
+
+// `intervals` of an outline: the outline, work, out. There is room for the intervals of every colatitude.
+pub fn polygon_intervals(vertices: usize, lengths: &mut [usize]) -> Answer
+    ensures { λ x. ⌜ x ≡ lengthsCheck (sizeCheck 4096 vertices) (intervalsLengths vertices) (length (now (lengths .entry))) ⌝ }
+    ensures { λ x. ⌜ now (lengths .exit) ≡ lengthsAfter (sizeCheck 4096 vertices) (intervalsLengths vertices) (now (lengths .entry)) ⌝ }
+{
+    if vertices > polygon::MAX_VERTICES {
+        return Answer::Refused(Refusal::Size);
+    }
+    let told = [vertices + vertices, vertices, vertices / 2 * 2];
+    leaves::tell(&told, lengths)
+}
+
+// `breaks` of an outline: the outline, work, out.
+pub fn polygon_breaks(vertices: usize, lengths: &mut [usize]) -> Answer
+    ensures { λ x. ⌜ x ≡ lengthsCheck (sizeCheck 4096 vertices) (breaksLengths vertices) (length (now (lengths .entry))) ⌝ }
+    ensures { λ x. ⌜ now (lengths .exit) ≡ lengthsAfter (sizeCheck 4096 vertices) (breaksLengths vertices) (now (lengths .entry)) ⌝ }
+{
+    if vertices > polygon::MAX_VERTICES {
+        return Answer::Refused(Refusal::Size);
+    }
+    let told = [vertices + vertices, vertices, vertices];
+    leaves::tell(&told, lengths)
+}
+
+// `basin_kernel`: weights, latitudes, marks, s, c, work, kc, ks.
+pub fn basin_kernel(lmax: usize, nodes: usize, lengths: &mut [usize]) -> Answer
+    ensures { λ x. ⌜ x ≡ lengthsCheck (kernelSizes lmax nodes) (kernelLengths lmax nodes) (length (now (lengths .entry))) ⌝ }
+    ensures { λ x. ⌜ now (lengths .exit) ≡ lengthsAfter (kernelSizes lmax nodes) (kernelLengths lmax nodes) (now (lengths .entry)) ⌝ }
+{
+    if lmax > storage::MAX_DEGREE {
+        return Answer::Refused(Refusal::Size);
+    }
+    if nodes > regions::MAX_REGION_NODES {
+        return Answer::Refused(Refusal::Size);
+    }
+    let size = leaves::entries(lmax);
+    let integrals = leaves::product(nodes, lmax + lmax + 1);
+    let told = [
+        nodes,
+        nodes + nodes,
+        nodes,
+        integrals,
+        integrals,
+        3 * size,
+        size,
+        size,
     ];
     leaves::tell(&told, lengths)
 }

@@ -63,8 +63,8 @@ fn cap_in(
     column: &mut [f64],
     order: &mut [usize],
     starts: &mut [usize],
-    places: &mut [usize],
-    spare: &mut [usize],
+    places: &mut [u16],
+    spare: &mut [u16],
     work: &mut [f64],
     orders: &mut [f64],
     concentrations: &mut [f64],
@@ -138,8 +138,8 @@ fn cap_short(
     let mut column = [0.0; 16];
     let mut order = [0usize; 136];
     let mut starts = [0usize; 136];
-    let mut places = [0usize; 136];
-    let mut spare = [0usize; 136];
+    let mut places = [0u16; 136];
+    let mut spare = [0u16; 136];
     cap_in(
         lmax,
         x0,
@@ -183,8 +183,8 @@ fn cap_long(
     let mut column = [0.0; 181];
     let mut order = [0usize; 16471];
     let mut starts = [0usize; 16471];
-    let mut places = [0usize; 16471];
-    let mut spare = [0usize; 16471];
+    let mut places = [0u16; 16471];
+    let mut spare = [0u16; 16471];
     cap_in(
         lmax,
         x0,

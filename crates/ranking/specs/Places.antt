@@ -1,11 +1,11 @@
 -- The falling ranking of a list of keys, as the places of the keys: the place of the first one in rank, then of the second, and so on. Keys that
--- rank equal keep their order. Definitions only.
+-- rank equal keep their order. And the rising ranking, as the keys themselves. Definitions only.
 use mathlib.Core.Bool.{Bool}
 use mathlib.Core.List.{List}
 use Prim.Native.Nat.{ℕ}
 use lib.ListN.{length, getD}
 use lib.Ieee.{Float, nan}
-use Rattle.number.specs.Order.{ranksBefore}
+use Rattle.number.specs.Order.{ranksBelow, ranksBefore}
 use Rattle.number.specs.Ranking.{ranking}
 use Rattle.storage.specs.Tabulate.{tabulate}
 
@@ -23,3 +23,7 @@ upTo i n = tabulate self i n
 -- the places of all keys, ranked
 unfoldable pub rankedPlaces : List Float → List ℕ
 rankedPlaces keys = ranking (keyBefore keys) (upTo 0 (length keys))
+
+-- the keys themselves, ranked rising
+unfoldable pub rising : List Float → List Float
+rising keys = ranking ranksBelow keys

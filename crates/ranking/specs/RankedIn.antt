@@ -1,21 +1,26 @@
 -- The ranked places as a list that was lent for them holds them, at its front. Assumes nothing.
 use mathlib.Core.Path.{_≡_, sym, ap, subst, _∙_}
 use mathlib.Core.List.{List}
-use Prim.Native.Nat.{ℕ, _+_, _≤_, _<_}
+use Prim.Native.Nat.{ℕ, _+_, _-_, _≤_, _<_}
 use native.Mathlib.Nat.{zero-add}
 use native.Mathlib.Omega.{arith}
+use lib.Dec.{T}
 use lib.ListN.{length, getD, take, drop, length-drop}
 use lib.Seq.{ext-getD, getD-take, length-take-le}
-use lib.Ieee.{Float}
+use lib.Ieee.{Float, nan, binary64, fits}
 use Rattle.storage.specs.Elements.{from, from-zero}
 use Rattle.storage.specs.Filled.{Filled, filled-in}
-use Rattle.ranking.specs.Places.{rankedPlaces}
+use Rattle.ranking.specs.Places.{rankedPlaces, rising}
 use Rattle.ranking.specs.Rankings.{length-places, every-place, every-at}
+use Rattle.ranking.specs.Rising.{rising-at}
 
 -- the first n places are below n
 pub record PlacesIn (n : ℕ) (places : List ℕ) : Type 0 where
   pub long : n ≤ length places
   pub inside : (i : ℕ) → i < n → getD places i 0 < n
+
+pub place-inside : {n j r : ℕ} {places : List ℕ} → PlacesIn n places → r ≡ getD places j 0 → j < n → r < n
+place-inside {j = j} p e h = let b = p .inside j h in omega arith
 
 -- the places as the list that was lent for them holds them
 module _ (keys : List Float) {d l : List ℕ} (r : Filled 0 (from 0 (rankedPlaces keys) 0) (length keys) d l) (h : length keys ≤ length d) where
@@ -29,7 +34,7 @@ module _ (keys : List Float) {d l : List ℕ} (r : Filled 0 (from 0 (rankedPlace
       ext-getD 0 (take (length keys) l) (rankedPlaces keys) (n ∙ sym (length-places keys))
       (λ i b. getD-take (length keys) l i 0 (omega arith) ∙ place-is i (omega arith))
 
-  places-in : PlacesIn (length keys) l
+  pub places-in : PlacesIn (length keys) l
   places-in = record {
     long = omega (arith, r .long);
     inside = λ i b.
@@ -37,6 +42,11 @@ module _ (keys : List Float) {d l : List ℕ} (r : Filled 0 (from 0 (rankedPlace
         let g = every-at (λ f. f < length keys) 0 (rankedPlaces keys) (every-place keys) i (omega (arith, length-places keys)) in
         omega arith;
   }
+
+  -- read from the last place on, the keys rise
+  pub rises : ((i : ℕ) → T (fits binary64 (getD keys i nan))) → (i : ℕ) → i < length keys
+      → getD keys (getD l (length keys - (i + 1)) 0) nan ≡ getD (rising keys) i nan
+  rises doubles i b = ap (λ (p : ℕ). getD keys p nan) (place-is (length keys - (i + 1)) (omega arith)) ∙ sym (rising-at keys doubles i b)
 
 -- a list holds the places P at its front
 pub record RankedIn (n : ℕ) (P places : List ℕ) : Type 0 where

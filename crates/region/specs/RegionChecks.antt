@@ -37,7 +37,7 @@ module _ (L nodes weights lats marks s c work concentrations cs ss : ℕ) where
       let (p, h4) = past (ltb cs (basisSize L * tableSize L)) Space _ h3 in
       let (q, h5) = past (ltb ss (basisSize L * tableSize L)) Space _ h4 in
       record {
-        lists = nodes-accepted L nodes weights lats marks s c n;
+        lists = nodes-accepted 21 L nodes weights lats marks s c n;
         of-work = nltb→le work (regionWork L) w;
         of-concentrations = nltb→le concentrations (basisSize L) v;
         of-cosines = nltb→le cs (basisSize L * tableSize L) p;

@@ -63,7 +63,7 @@ pub fn write_functions(
     n: usize,
     table: usize,
     at: usize,
-    places: &[usize],
+    places: &[u16],
     w: &[f64],
     out: &mut [f64],
 )
@@ -76,7 +76,7 @@ pub fn write_functions(
     let mut to = 0;
     let mut i = 0;
     while i < n {
-        let place = places[i];
+        let place = ranking::index(places[i]);
         write_function(sine, lmax, at + matrix::row(n, place), w, to, out);
         to = to + table;
         i = i + 1;
@@ -84,13 +84,13 @@ pub fn write_functions(
 }
 
 // The values in the order of the places.
-pub fn write_values(n: usize, places: &[usize], values: &[f64], out: &mut [f64])
+pub fn write_values(n: usize, places: &[u16], values: &[f64], out: &mut [f64])
     requires { ⌜ PlacesIn n (now places) ⌝ ∗ ⌜ n ≤ length (now values) ⌝ ∗ ⌜ n ≤ length (now out) ⌝ }
     ensures { λ _. ⌜ Filled 0 (pickedValue (now (places .entry)) (now (values .entry))) n (now (out .entry)) (now (out .exit)) ⌝ }
 {
     let mut i = 0;
     while i < n {
-        let place = places[i];
+        let place = ranking::index(places[i]);
         out[i] = values[place];
         i = i + 1;
     }

@@ -79,8 +79,8 @@ fn write(
     ensures { λ _. ⌜ Filled 0 (byRows (pickedVector true n at (rankedPlaces (take n (now (values .entry)))) (now (work .entry))) table) (n * table)
         (now (ss .entry)) (now (ss .exit)) ⌝ }
 {
-    let mut places = [0usize; 484];
-    let mut spare = [0usize; 484];
+    let mut places = [0u16; 484];
+    let mut spare = [0u16; 484];
     ranking::rank(&values[..n], &mut places, &mut spare);
     crate::functions::write_values(n, &places, values, concentrations);
     crate::functions::write_functions(false, lmax, n, table, at, &places, work, cs);

@@ -4,4 +4,3 @@ pub mod Places
 pub mod Nodes
 pub mod NodeLaws
 pub mod Examples
-pub mod KernelRow

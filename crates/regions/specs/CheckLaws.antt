@@ -19,18 +19,18 @@ use Rattle.storage.specs.Rectangle.{byRows}
 use Rattle.storage.specs.Triangle.{tableSize}
 use Rattle.region_nodes.specs.Basis.{basisSize}
 use Rattle.region_nodes.specs.Regions.{integrals, regionCell}
-use Rattle.regions.specs.Nodes.{NodeLists, cell-written, region-symmetric}
-use Rattle.regions.specs.Checks.{nodesCheck, matrixCheck, Symmetric}
+use Rattle.regions.specs.Nodes.{NodeListsTo, NodeLists, cell-written, region-symmetric}
+use Rattle.regions.specs.Checks.{nodesCheckTo, nodesCheck, matrixCheck, Symmetric}
 
 -- ---- the ways through the checks of the nodes
-module _ (L nodes weights lats marks s c : ℕ) where
+module _ (most L nodes weights lats marks s c : ℕ) where
   abbrev ofNodes : Answer
-  ofNodes = nodesCheck L nodes weights lats marks s c
+  ofNodes = nodesCheckTo most L nodes weights lats marks s c
 
-  pub nodes-accepted : Done ≡ ofNodes → NodeLists L nodes weights lats marks s c
-  unfolding nodesCheck
+  pub nodes-accepted : Done ≡ ofNodes → NodeListsTo most L nodes weights lats marks s c
+  unfolding nodesCheckTo
   nodes-accepted h =
-      let (t, h1) = past (ltb 21 L) Size _ h in
+      let (t, h1) = past (ltb most L) Size _ h in
       let (f, h2) = past (ltb 65535 nodes) Size _ h1 in
       let (w, h3) = past (not (eqb weights nodes)) Length _ h2 in
       let (l, h4) = past (not (eqb lats (nodes + nodes))) Length _ h3 in
@@ -38,7 +38,7 @@ module _ (L nodes weights lats marks s c : ℕ) where
       let (x, h6) = past (not (eqb s (nodes * integrals L))) Length _ h5 in
       let (y, h7) = past (not (eqb c (nodes * integrals L))) Length _ h6 in
       record {
-        top = nltb→le 21 L t;
+        top = nltb→le most L t;
         few = nltb→le 65535 nodes f;
         of-weights = same weights nodes w;
         of-latitudes = same lats (nodes + nodes) l;
@@ -47,62 +47,66 @@ module _ (L nodes weights lats marks s c : ℕ) where
         of-c = same c (nodes * integrals L) y;
       }
 
-  pub high-degree : 21 < L → Refused Size ≡ ofNodes
-  unfolding nodesCheck
-  high-degree h = stop _ _ (lt-ltb 21 L h)
+  pub high-degree : most < L → Refused Size ≡ ofNodes
+  unfolding nodesCheckTo
+  high-degree h = stop _ _ (lt-ltb most L h)
 
-  module _ (t : L ≤ 21) where
+  module _ (t : L ≤ most) where
     pub many-nodes : 65535 < nodes → Refused Size ≡ ofNodes
-    unfolding nodesCheck
-    many-nodes h = pass _ (le-ltb 21 L t) (stop _ _ (lt-ltb 65535 nodes h))
+    unfolding nodesCheckTo
+    many-nodes h = pass _ (le-ltb most L t) (stop _ _ (lt-ltb 65535 nodes h))
 
     module _ (f : nodes ≤ 65535) where
       pub wrong-weights : (weights ≡ nodes → ⊥) → Refused Length ≡ ofNodes
-      unfolding nodesCheck
-      wrong-weights h = pass _ (le-ltb 21 L t) (pass _ (le-ltb 65535 nodes f) (stop _ _ (different h)))
+      unfolding nodesCheckTo
+      wrong-weights h = pass _ (le-ltb most L t) (pass _ (le-ltb 65535 nodes f) (stop _ _ (different h)))
 
       module _ (w : weights ≡ nodes) where
         pub wrong-latitudes : (lats ≡ nodes + nodes → ⊥) → Refused Length ≡ ofNodes
-        unfolding nodesCheck
-        wrong-latitudes h = pass _ (le-ltb 21 L t) (pass _ (le-ltb 65535 nodes f) (pass _ (equal w) (stop _ _ (different h))))
+        unfolding nodesCheckTo
+        wrong-latitudes h = pass _ (le-ltb most L t) (pass _ (le-ltb 65535 nodes f) (pass _ (equal w) (stop _ _ (different h))))
 
         module _ (l : lats ≡ nodes + nodes) where
           pub wrong-marks : (marks ≡ nodes → ⊥) → Refused Length ≡ ofNodes
-          unfolding nodesCheck
-          wrong-marks h = pass _ (le-ltb 21 L t) (pass _ (le-ltb 65535 nodes f) (pass _ (equal w) (pass _ (equal l) (stop _ _ (different h)))))
+          unfolding nodesCheckTo
+          wrong-marks h = pass _ (le-ltb most L t) (pass _ (le-ltb 65535 nodes f) (pass _ (equal w) (pass _ (equal l) (stop _ _ (different h)))))
 
           module _ (m : marks ≡ nodes) where
             pub wrong-s : (s ≡ nodes * (L + L + 1) → ⊥) → Refused Length ≡ ofNodes
-            unfolding nodesCheck integrals
+            unfolding nodesCheckTo integrals
             wrong-s h =
-                pass _ (le-ltb 21 L t)
+                pass _ (le-ltb most L t)
                 (pass _ (le-ltb 65535 nodes f) (pass _ (equal w) (pass _ (equal l) (pass _ (equal m) (stop _ _ (different h))))))
 
             module _ (x : s ≡ nodes * (L + L + 1)) where
               pub wrong-c : (c ≡ nodes * (L + L + 1) → ⊥) → Refused Length ≡ ofNodes
-              unfolding nodesCheck integrals
+              unfolding nodesCheckTo integrals
               wrong-c h =
-                  pass _ (le-ltb 21 L t)
+                  pass _ (le-ltb most L t)
                   (pass _ (le-ltb 65535 nodes f)
                   (pass _ (equal w) (pass _ (equal l) (pass _ (equal m) (pass _ (equal x) (stop _ _ (different h)))))))
 
               pub nodes-done : c ≡ nodes * (L + L + 1) → Done ≡ ofNodes
-              unfolding nodesCheck integrals
+              unfolding nodesCheckTo integrals
               nodes-done h =
-                  pass _ (le-ltb 21 L t)
+                  pass _ (le-ltb most L t)
                   (pass _ (le-ltb 65535 nodes f)
                   (pass _ (equal w) (pass _ (equal l) (pass _ (equal m) (pass _ (equal x) (pass _ (equal h) refl))))))
 
-  -- ---- the same for the matrix
+-- ---- the same for the matrix
+module _ (L nodes weights lats marks s c : ℕ) where
+  abbrev ofRegion : Answer
+  ofRegion = nodesCheck L nodes weights lats marks s c
+
   module _ (work matrix : ℕ) where
     abbrev ofMatrix : Answer
     ofMatrix = matrixCheck L nodes weights lats marks s c work matrix
 
-    pub matrix-lists : (e : Refusal) → Refused e ≡ ofNodes → Refused e ≡ ofMatrix
+    pub matrix-lists : (e : Refusal) → Refused e ≡ ofRegion → Refused e ≡ ofMatrix
     unfolding matrixCheck
     matrix-lists e h = refused-then e _ h
 
-    module _ (d : Done ≡ ofNodes) where
+    module _ (d : Done ≡ ofRegion) where
       pub short-work : work < 3 * tableSize L → Refused Space ≡ ofMatrix
       unfolding matrixCheck
       short-work h = done-then d (stop _ _ (lt-ltb work (3 * tableSize L) h))
@@ -120,10 +124,10 @@ module _ (L nodes weights lats marks s c : ℕ) where
     pub matrix-accepted : Done ≡ ofMatrix → NodeLists L nodes weights lats marks s c × (basisSize L * basisSize L ≤ matrix)
     unfolding matrixCheck
     matrix-accepted h =
-        let (d, g) = both ofNodes _ h in
+        let (d, g) = both ofRegion _ h in
         let (p, k) = past (ltb work (3 * tableSize L)) Space _ g in
         let (q, z) = past (ltb matrix (basisSize L * basisSize L)) Space _ k in
-        (nodes-accepted d, nltb→le matrix (basisSize L * basisSize L) q)
+        (nodes-accepted 21 L nodes weights lats marks s c d, nltb→le matrix (basisSize L * basisSize L) q)
 
 -- ---- the answer, and the matrix that it leaves
 module _ (L nodes : ℕ) (weights lats : List Float) (marks : List ℕ) (s c : List Float) (work : ℕ) (d : List Float) where

@@ -15,15 +15,19 @@ use Rattle.matrix.specs.Matrix.{cell}
 use Rattle.region_nodes.specs.Basis.{basisSize}
 use Rattle.region_nodes.specs.Regions.{integrals}
 
--- SIZE of the degree and of the nodes; LENGTH of the five lists of the nodes
-unfoldable pub nodesCheck : (L nodes weights lats marks s c : ℕ) → Answer
-nodesCheck L nodes weights lats marks s c =
-    refuse (ltb 21 L) Size
+-- SIZE of the degree, which may be up to most, and of the nodes; LENGTH of the five lists of the nodes
+unfoldable pub nodesCheckTo : (most L nodes weights lats marks s c : ℕ) → Answer
+nodesCheckTo most L nodes weights lats marks s c =
+    refuse (ltb most L) Size
     (refuse (ltb 65535 nodes) Size
     (refuse (not (eqb weights nodes)) Length
     (refuse (not (eqb lats (nodes + nodes))) Length
     (refuse (not (eqb marks nodes)) Length
     (refuse (not (eqb s (nodes * integrals L))) Length (refuse (not (eqb c (nodes * integrals L))) Length Done))))))
+
+-- a region's functions go up to degree 21
+abbrev pub nodesCheck : (L nodes weights lats marks s c : ℕ) → Answer
+nodesCheck = nodesCheckTo 21
 
 -- then SPACE of the working list, three tables long, and of the matrix
 unfoldable pub matrixCheck : (L nodes weights lats marks s c work matrix : ℕ) → Answer

@@ -25,15 +25,18 @@ use Rattle.region_nodes.specs.NodeLaws.{degree-within, by-place, product-in, pl
 use Rattle.regions.specs.Sums.{placeIn, addedCell, added-left, added-right}
 use Rattle.regions.specs.Mirror.{overFourPi, mirrored, mirrored-left, mirrored-right}
 
--- the lists of the nodes have their lengths: a record, whose fields `omega` finds
-pub record NodeLists (L nodes weights lats marks s c : ℕ) : Type 0 where
-  pub top : L ≤ 21
+-- the lists of the nodes have their lengths, for a degree up to most: a record, whose fields `omega` finds
+pub record NodeListsTo (most L nodes weights lats marks s c : ℕ) : Type 0 where
+  pub top : L ≤ most
   pub few : nodes ≤ 65535
   pub of-weights : weights ≡ nodes
   pub of-latitudes : lats ≡ nodes + nodes
   pub of-marks : marks ≡ nodes
   pub of-s : s ≡ nodes * integrals L
   pub of-c : c ≡ nodes * integrals L
+
+abbrev pub NodeLists : (L nodes weights lats marks s c : ℕ) → Type 0
+NodeLists = NodeListsTo 21
 
 -- the tables of the recursion, and room in the arrays and in the matrix
 pub record NodeArrays (L : ℕ) (a b : List Float) (p functions products d : ℕ) : Type 0 where
@@ -62,7 +65,7 @@ array-sizes L h =
 
 -- where the integrals of a node stand in the lists: a record, whose fields `omega` finds
 pub record IntegralsAt (L at s c : ℕ) : Type 0 where
-  pub small : at ≤ 2818005
+  pub small : at ≤ 353954535
   pub of-s : at + (L + L) < s
   pub of-c : at + (L + L) < c
 
@@ -70,14 +73,15 @@ pub width-is : (L : ℕ) → L + L + 1 ≡ integrals L
 unfolding integrals
 width-is L = refl
 
-pub integrals-at : {L nodes weights lats marks s c : ℕ} (ν : ℕ) → NodeLists L nodes weights lats marks s c → ν < nodes → IntegralsAt L (ν * (L + L + 1)) s c
-integrals-at {L} {nodes} {weights} {lats} {marks} {s} {c} ν lists h =
+pub integrals-at : {most L nodes weights lats marks s c : ℕ} (ν : ℕ) → most ≤ 2700 → NodeListsTo most L nodes weights lats marks s c → ν < nodes
+    → IntegralsAt L (ν * (L + L + 1)) s c
+integrals-at {most} {L} {nodes} {weights} {lats} {marks} {s} {c} ν top lists h =
     let up = mul-le-mul-right (L + L + 1) h in
-    let width : L + L + 1 ≤ 43 = omega (arith, lists .top) in
-    let most = mul-le-mul (lists .few) width in
+    let width : L + L + 1 ≤ 5401 = omega (arith, lists .top) in
+    let product = mul-le-mul (lists .few) width in
     let es : s ≡ nodes * (L + L + 1) = lists .of-s ∙ ap (λ (k : ℕ). nodes * k) (sym (width-is L)) in
     let ec : c ≡ nodes * (L + L + 1) = lists .of-c ∙ ap (λ (k : ℕ). nodes * k) (sym (width-is L)) in
-    record { small = omega (arith, up, most); of-s = omega (arith, up, es); of-c = omega (arith, up, ec) }
+    record { small = omega (arith, up, product); of-s = omega (arith, up, es); of-c = omega (arith, up, ec) }
 
 -- lists that are written keep their lengths
 pub arrays-kept : {L : ℕ} {a b : List Float} {p f q d p′ f′ q′ d′ : ℕ} → NodeArrays L a b p f q d → p′ ≡ p → f′ ≡ f → q′ ≡ q → d′ ≡ d

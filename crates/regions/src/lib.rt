@@ -13,15 +13,16 @@ ghost use Rattle.storage.specs.Fill.{fill};
 ghost use Rattle.storage.specs.Rectangle.{byRows};
 ghost use Rattle.region_nodes.specs.Basis.{basisSize};
 ghost use Rattle.region_nodes.specs.Regions.{regionCell};
-ghost use Rattle.regions.specs.Checks.{nodesCheck, matrixCheck, Symmetric};
+ghost use Rattle.regions.specs.Checks.{nodesCheckTo, nodesCheck, matrixCheck, Symmetric};
 
 // The highest degree of a region's functions, and the most nodes.
 pub const MAX_REGION: usize = 21;
 
 pub const MAX_REGION_NODES: usize = 65535;
 
-// SIZE and LENGTH of the lists of the nodes.
-pub fn nodes_check(
+// SIZE and LENGTH of the lists of the nodes, for degrees up to `most`.
+pub fn nodes_check_to(
+    most: usize,
     lmax: usize,
     nodes: usize,
     weights: usize,
@@ -30,9 +31,10 @@ pub fn nodes_check(
     s: usize,
     c: usize,
 ) -> Answer
-    ensures { λ x. ⌜ x ≡ nodesCheck lmax nodes weights latitudes marks s c ⌝ }
+    requires { ⌜ most ≤ 2700 ⌝ }
+    ensures { λ x. ⌜ x ≡ nodesCheckTo most lmax nodes weights latitudes marks s c ⌝ }
 {
-    if lmax > MAX_REGION {
+    if lmax > most {
         return Answer::Refused(Refusal::Size);
     }
     if nodes > MAX_REGION_NODES {
@@ -55,6 +57,21 @@ pub fn nodes_check(
         return Answer::Refused(Refusal::Length);
     }
     Answer::Done
+}
+
+// The same for a region's functions.
+pub fn nodes_check(
+    lmax: usize,
+    nodes: usize,
+    weights: usize,
+    latitudes: usize,
+    marks: usize,
+    s: usize,
+    c: usize,
+) -> Answer
+    ensures { λ x. ⌜ x ≡ nodesCheck lmax nodes weights latitudes marks s c ⌝ }
+{
+    nodes_check_to(MAX_REGION, lmax, nodes, weights, latitudes, marks, s, c)
 }
 
 // The number of functions up to degree lmax.

@@ -12,7 +12,7 @@ ghost use Rattle.regions.specs.Nodes.{NodeLists};
 ghost use Rattle.regions.specs.Mirror.{overFourPi, belowDiagonal, mirrored};
 
 // The first `size` numbers over 4π.
-fn divide(size: usize, d: &mut [f64])
+pub fn divide(size: usize, d: &mut [f64])
     requires { ⌜ size ≤ length (now d) ⌝ }
     ensures { λ _. ⌜ Filled 0 (overFourPi (now (d .entry))) size (now (d .entry)) (now (d .exit)) ⌝ }
 {

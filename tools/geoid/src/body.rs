@@ -16,7 +16,7 @@ const EARTH: f64 = 0.01;
 /// The least radius at which a field is taken, in its own radius.
 pub const INSIDE: f64 = 0.9;
 /// A kernel's share of the sphere may exceed 1 by rounding only.
-const ROUNDING: f64 = 1e-9;
+pub const ROUNDING: f64 = 1e-9;
 /// A first coefficient as near to 1 as this, in a head of the Earth, is a field's.
 const FIELD: f64 = 1e-3;
 

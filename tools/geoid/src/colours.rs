@@ -7,6 +7,8 @@ pub const WHITE: u8 = 0;
 pub const BLACK: u8 = 1;
 /// Where there is no number.
 pub const MISSING: u8 = 2;
+/// Outlines, in a colour that no value has.
+pub const OUTLINE: u8 = 3;
 /// Colours of values begin here; behind them stands a darker copy of each, for lines on the map.
 const FIRST: u8 = 4;
 /// How many colours values have.
@@ -80,7 +82,7 @@ impl Colours {
     /// All colours, in the order of their places.
     pub fn palette(&self) -> Vec<Rgb> {
         let colour = |level| blend(self.anchors, (f64::from(level) + 0.5) / f64::from(LEVELS));
-        let mut palette = vec![[255; 3], [0; 3], [170; 3], [170; 3]];
+        let mut palette = vec![[255; 3], [0; 3], [170; 3], [226, 0, 190]];
         palette.extend((0..LEVELS).map(colour));
         palette.extend((0..LEVELS).map(|level| colour(level).map(|part| (f64::from(part) * DARKER) as u8)));
         palette

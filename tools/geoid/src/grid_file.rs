@@ -6,6 +6,7 @@ use crate::error::Error;
 use crate::field_file::has_extension;
 use crate::grid::Nodes;
 use crate::map::{self, Map};
+use crate::outline::Ring;
 use crate::output::{is_special, write_whole, write_with};
 use crate::provenance::Provenance;
 use crate::{formats, netcdf, png};
@@ -30,13 +31,20 @@ impl Format {
     }
 }
 
-/// Write a grid and the files beside it; answers the unit of its numbers.
-pub fn write(out: &Path, format: Format, nodes: &Nodes, values: Vec<f64>, about: &Provenance) -> Result<&'static str, Error> {
+/// Write a grid and the files beside it; answers the unit of its numbers. A map has outlines too.
+pub fn write(
+    out: &Path,
+    format: Format,
+    nodes: &Nodes,
+    values: Vec<f64>,
+    about: &Provenance,
+    rings: &[Ring],
+) -> Result<&'static str, Error> {
     match format {
         Format::Csv => write_with(out, |out| formats::csv(nodes, &values, out))?,
         Format::Esri => write_with(out, |out| formats::esri(nodes, &values, out))?,
         Format::NetCdf => write_with(out, |out| netcdf::write(nodes, &values, about, out))?,
-        Format::Png => write_whole(out, &picture(nodes, values, about)?)?,
+        Format::Png => write_whole(out, &picture(nodes, values, about, rings)?)?,
     }
     write_beside(out, format, about)?;
     Ok(if matches!(format, Format::Png) { about.quantity.unit } else { about.quantity.si_unit })
@@ -54,12 +62,12 @@ fn write_beside(out: &Path, format: Format, about: &Provenance) -> Result<(), Er
 }
 
 /// The map's file.
-fn picture(nodes: &Nodes, mut values: Vec<f64>, about: &Provenance) -> Result<Vec<u8>, Error> {
+fn picture(nodes: &Nodes, mut values: Vec<f64>, about: &Provenance, rings: &[Ring]) -> Result<Vec<u8>, Error> {
     let quantity = about.quantity;
     values.iter_mut().for_each(|value| *value *= quantity.per_si);
     let lines = about.lines();
     let subtitle = lines.each_ref().map(String::as_str);
-    let image = map::draw(&Map { nodes, values: &values, unit: quantity.unit, title: &about.title, subtitle })?;
+    let image = map::draw_with(&Map { nodes, values: &values, unit: quantity.unit, title: &about.title, subtitle }, rings)?;
     let description = lines.join("; ");
     Ok(png::encode(&image, &[("Title", &about.title), ("Description", &description), ("Software", "geoid")]))
 }

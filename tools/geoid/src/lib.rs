@@ -4,6 +4,7 @@
 //! [`commands::main`] prints. Files are written whole or not at all ([`output`]).
 
 pub mod arguments;
+pub mod basin;
 pub mod body;
 pub mod canvas;
 pub mod colours;
@@ -14,6 +15,7 @@ pub mod dating;
 pub mod day;
 pub mod deflate;
 pub mod difference;
+pub mod drawn;
 pub mod error;
 pub mod field_file;
 pub mod finite;
@@ -30,6 +32,7 @@ pub mod love;
 pub mod map;
 pub mod netcdf;
 pub mod normal;
+pub mod outline;
 pub mod output;
 pub mod pair_table;
 pub mod part_file;

@@ -140,7 +140,13 @@ impl NormalGravity {
         self.geocentric_above(lat, 0.0)
     }
 
-    /// The same of the point `height` metres above the ellipsoid there.
+    /// Geodetic latitude (rad) of the point of the ellipsoid at geocentric latitude `lat` (rad): `tan φ = tan φ′/(1 − e²)`.
+    pub fn geodetic(&self, lat: f64) -> f64 {
+        let (sin, cos) = lat.sin_cos();
+        sin.atan2((1.0 - self.e2()) * cos)
+    }
+
+    /// Geocentric latitude and radius of the point `height` metres above the ellipsoid at geodetic latitude `lat` (rad).
     pub fn geocentric_above(&self, lat: f64, height: f64) -> (f64, f64) {
         let (sin, cos) = lat.sin_cos();
         let n = self.a / (1.0 - self.e2() * sin * sin).sqrt();

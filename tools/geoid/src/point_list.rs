@@ -112,7 +112,8 @@ fn parse(text: &str) -> Result<PointList, Fault> {
     Ok(PointList { heading: heading.trim_end().to_string(), vertical, points: points? })
 }
 
-fn is_comment(line: &str) -> bool {
+/// Whether a line is blank or begins with a `#`.
+pub fn is_comment(line: &str) -> bool {
     line.trim().is_empty() || line.starts_with('#')
 }
 
@@ -150,7 +151,7 @@ fn point(number: usize, line: &str, columns: &Columns) -> Result<Point, String> 
 }
 
 /// The fields of a line; a comma between quotation marks is no end of a field.
-fn fields(line: &str) -> Vec<String> {
+pub fn fields(line: &str) -> Vec<String> {
     let mut fields = vec![String::new()];
     let mut quoted = false;
     for character in line.chars() {

@@ -42,6 +42,11 @@ pub fn decoded(bytes: &[u8]) -> Cow<'_, str> {
     }
 }
 
+/// A count with its noun, of which more than one has an `s`.
+pub fn counted(count: usize, noun: &str) -> String {
+    format!("{count} {noun}{}", if count == 1 { "" } else { "s" })
+}
+
 /// A text whose last line has no end is cut: its last number may be another one.
 pub fn check_end(text: &str) -> Result<(), Fault> {
     match text.rsplit('\n').next() {

@@ -10,7 +10,7 @@ use support::{Folder, geoid};
 #[test]
 fn help_names_everything() {
     let help = geoid(&["--help"]).unwrap();
-    for command in ["convert", "info", "grid", "points", "average", "subtract", "replace", "smooth", "caps", "sample"] {
+    for command in ["convert", "info", "grid", "points", "average", "kernel", "subtract", "replace", "smooth", "caps", "region", "sample"] {
         assert!(help.contains(&format!("\n  {command} ")), "{command}");
         assert!(geoid(&[command, "--help"]).unwrap().starts_with(&format!("usage: geoid {command}")));
     }
@@ -24,11 +24,11 @@ fn wrong_words_are_named() {
         (&[], "no command; see geoid --help"),
         (
             &["gird"],
-            "unknown command 'gird'; expected one of convert, info, grid, points, average, subtract, replace, smooth, caps, sample, --help, --version",
+            "unknown command 'gird'; expected one of convert, info, grid, points, average, kernel, subtract, replace, smooth, caps, region, sample, --help, --version",
         ),
         (
             &["--wrong"],
-            "unknown option '--wrong'; expected one of convert, info, grid, points, average, subtract, replace, smooth, caps, sample, --help, --version",
+            "unknown option '--wrong'; expected one of convert, info, grid, points, average, kernel, subtract, replace, smooth, caps, region, sample, --help, --version",
         ),
         (&["info"], "FILE is missing; see geoid info --help"),
         (&["info", "a", "b"], "unexpected word 'b'; see geoid info --help"),

@@ -65,6 +65,12 @@ lengths! {
     fn concentration_matrix(lmax, nodes) -> 7 = geopotential_concentration_matrix_lengths;
     /// weights, latitudes, marks, s, c, work, concentrations, cs, ss.
     fn region(lmax, nodes) -> 9 = geopotential_region_lengths;
+    /// outline, work, out.
+    fn polygon_intervals(vertices) -> 3 = geopotential_polygon_intervals_lengths;
+    /// outline, work, out.
+    fn polygon_breaks(vertices) -> 3 = geopotential_polygon_breaks_lengths;
+    /// weights, latitudes, marks, s, c, work, the kernel's c, its s.
+    fn basin_kernel(lmax, nodes) -> 8 = geopotential_basin_kernel_lengths;
 }
 
 /// bytes, c, s, head: by the file's head, whose own refusals come first.
@@ -136,6 +142,18 @@ mod tests {
     }
 
     #[test]
+    fn lengths_of_drawn_basins() {
+        for v in [0, 1, 2, 3, 4, 7, 4096] {
+            assert_eq!(polygon_intervals(v), Ok([2 * v, v, v / 2 * 2]));
+            assert_eq!(polygon_breaks(v), Ok([2 * v, v, v]));
+        }
+        for (l, n) in [(0, 0), (1, 5), (21, 65_535), (MAX_DEGREE, 3), (MAX_DEGREE, 65_535)] {
+            let (t, integrals) = (pairs(l), (2 * l + 1) * n);
+            assert_eq!(basin_kernel(l, n), Ok([n, 2 * n, n, integrals, integrals, 3 * t, t, t]));
+        }
+    }
+
+    #[test]
     fn lengths_of_a_file_come_from_its_head() {
         let mut head = [0; 20];
         (head[0], head[17], head[18]) = (1, 3, 2);
@@ -164,6 +182,7 @@ mod tests {
             assert_eq!(analysis(n), Err(Refusal::Size));
             assert_eq!(partials(n), Err(Refusal::Size));
             assert_eq!(second_partials(n), Err(Refusal::Size));
+            assert_eq!(basin_kernel(n, 0), Err(Refusal::Size));
         }
         assert_eq!(grid(2, 65_536, 0), Err(Refusal::Size));
         assert_eq!(grid(2, 0, 65_536), Err(Refusal::Size));
@@ -175,5 +194,10 @@ mod tests {
         assert_eq!(polar_cap(181), Err(Refusal::Size));
         assert_eq!(concentration_matrix(22, 0), Err(Refusal::Size));
         assert_eq!(region(21, 65_536), Err(Refusal::Size));
+        assert_eq!(basin_kernel(0, 65_536), Err(Refusal::Size));
+        for vertices in [4097, 1 << 32, 1 << 63, usize::MAX] {
+            assert_eq!(polygon_intervals(vertices), Err(Refusal::Size));
+            assert_eq!(polygon_breaks(vertices), Err(Refusal::Size));
+        }
     }
 }

@@ -422,4 +422,48 @@ unsafe extern "C" {
         settled: *mut u32,
         count: *mut usize,
     ) -> u32;
+
+    /// `count` tells the intervals, each of which has two numbers in `out`: its west end and its east end.
+    pub fn geopotential_polygon_intervals(
+        vertices: usize,
+        outline: *const f64,
+        outline_len: usize,
+        theta: f64,
+        work: *mut f64,
+        work_len: usize,
+        out: *mut f64,
+        out_len: usize,
+        count: *mut usize,
+    ) -> u32;
+    /// `count` tells the breaks.
+    pub fn geopotential_polygon_breaks(
+        vertices: usize,
+        outline: *const f64,
+        outline_len: usize,
+        work: *mut f64,
+        work_len: usize,
+        out: *mut f64,
+        out_len: usize,
+        count: *mut usize,
+    ) -> u32;
+    pub fn geopotential_basin_kernel(
+        lmax: usize,
+        nodes: usize,
+        weights: *const f64,
+        weights_len: usize,
+        latitudes: *const f64,
+        latitudes_len: usize,
+        marks: *const u8,
+        marks_len: usize,
+        s: *const f64,
+        s_len: usize,
+        c: *const f64,
+        c_len: usize,
+        work: *mut f64,
+        work_len: usize,
+        kc: *mut f64,
+        kc_len: usize,
+        ks: *mut f64,
+        ks_len: usize,
+    ) -> u32;
 }

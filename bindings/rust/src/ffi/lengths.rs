@@ -24,4 +24,7 @@ unsafe extern "C" {
     pub fn geopotential_polar_cap_lengths(lmax: usize, lengths: *mut usize, lengths_len: usize) -> u32;
     pub fn geopotential_concentration_matrix_lengths(lmax: usize, nodes: usize, lengths: *mut usize, lengths_len: usize) -> u32;
     pub fn geopotential_region_lengths(lmax: usize, nodes: usize, lengths: *mut usize, lengths_len: usize) -> u32;
+    pub fn geopotential_polygon_intervals_lengths(vertices: usize, lengths: *mut usize, lengths_len: usize) -> u32;
+    pub fn geopotential_polygon_breaks_lengths(vertices: usize, lengths: *mut usize, lengths_len: usize) -> u32;
+    pub fn geopotential_basin_kernel_lengths(lmax: usize, nodes: usize, lengths: *mut usize, lengths_len: usize) -> u32;
 }

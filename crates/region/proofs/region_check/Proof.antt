@@ -8,7 +8,7 @@ use Rattle.region.proofs.region_check.Statement.{statement}
 use Rattle.region.proofs.region_check.Tie as tie
 
 region-sizes-requires : tie.Need-region-sizes-requires
-region-sizes-requires c κs = nodes-accepted _ _ _ _ _ _ _ (sym (c .enum-told .given .1) ∙ c .before .before .nodes-check .ensures) .top
+region-sizes-requires c κs = nodes-accepted _ _ _ _ _ _ _ _ (sym (c .enum-told .given .1) ∙ c .before .before .nodes-check .ensures) .top
 
 returns : tie.Need-returns
 returns c =

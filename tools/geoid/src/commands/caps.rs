@@ -9,13 +9,14 @@ use super::Command;
 use crate::arguments::{Arguments, Opt};
 use crate::error::Error;
 use crate::output::write_whole;
+use crate::text::counted;
 
 /// The library's limit.
 const LARGEST_DEGREE: usize = 180;
 /// How many functions the table shows where `--top` does not say.
 const SHOWN: usize = 20;
 /// The most rows of a matrix that is solved by sweeps; above it there are rounds.
-const SWEPT_ROWS: usize = 32;
+pub const SWEPT_ROWS: usize = 32;
 /// How many orders that did not settle are named.
 const NAMED: usize = 10;
 
@@ -77,7 +78,8 @@ fn endings(orders: &[Convergence]) -> String {
     // Order m has a matrix of `orders.len() - m` rows: those of more than 32 stand in front.
     let long = orders.len().saturating_sub(SWEPT_ROWS);
     let open = orders.iter().enumerate().filter(|(_, end)| !end.settled);
-    let open: Vec<String> = open.map(|(m, end)| format!("{m} ({})", steps(end.count, if m < long { "round" } else { "sweep" }))).collect();
+    let open: Vec<String> =
+        open.map(|(m, end)| format!("{m} ({})", counted(end.count, if m < long { "round" } else { "sweep" }))).collect();
     if open.is_empty() {
         let (long, short) = orders.split_at(long);
         let most: Vec<String> = [most(short, "sweep"), most(long, "round")].into_iter().flatten().collect();
@@ -91,16 +93,12 @@ fn endings(orders: &[Convergence]) -> String {
 
 /// The largest count of some orders, if there are any.
 fn most(orders: &[Convergence], step: &str) -> Option<String> {
-    orders.iter().map(|end| end.count).max().map(|count| steps(count, step))
-}
-
-fn steps(count: usize, step: &str) -> String {
-    format!("{count} {step}{}", if count == 1 { "" } else { "s" })
+    orders.iter().map(|end| end.count).max().map(|count| counted(count, step))
 }
 
 /// A concentration with twelve digits or, where those would say 1, what it lacks of 1. Rounding may leave
 /// a little above 1.
-fn share(concentration: f64) -> String {
+pub fn share(concentration: f64) -> String {
     let rest = 1.0 - concentration;
     match format!("{concentration:.12}") {
         digits if digits != "1.000000000000" => digits,

@@ -15,6 +15,7 @@ use crate::grid::{GLOBE, Nodes, Region, Surface, cores, evaluate_by};
 use crate::grid_file::{Format, write};
 use crate::heights::{GAMMA, Heights, W0};
 use crate::normal::NormalGravity;
+use crate::outline::{self, Latitudes, OUTLINE_ELLIPSOID, Ring};
 use crate::provenance::Provenance;
 use crate::quantity::{Love, Quantity};
 use crate::reduction::{NORMAL, Reduction, Wish, ZERO_DEGREE};
@@ -46,6 +47,8 @@ pub const COMMAND: Command = Command {
             value: "TEXT",
             help: "the title of a map, .nc file or .aux.xml; default the functional's name, and the field's date if it has one",
         },
+        Opt { name: "--outline", value: "FILE", help: "draw a basin's outline on a map (.png), as geoid kernel takes it" },
+        OUTLINE_ELLIPSOID,
         Opt { name: "--threads", value: "K", help: "how many threads work side by side; default one a core" },
         Opt { name: "--rows", value: "FROM/TO", help: "only these rows, counted from 1 in the north, as a piece (--out PIECE.rows)" },
         Opt { name: "--pieces", value: "FOLDER", help: "put the grid together from the .rows files there, made with the same options" },
@@ -58,7 +61,9 @@ pub const COMMAND: Command = Command {
               A geoid height is the disturbing potential over GM/r^2 (--gamma sphere), the library's functional, whose\n\
               rounding margin is proved of finite values for coefficients, cosines and sines up to 1 in size (the\n\
               tool's cosines and sines should be); --gamma ellipsoid multiplies it by one factor a row, (GM/r^2)/gamma\n\
-              with gamma by Somigliana, and --w0 takes (W - U0)/gamma off it. geoid average has no such factor.\n",
+              with gamma by Somigliana, and --w0 takes (W - U0)/gamma off it. geoid average has no such factor.\n\
+              An outline's vertices are drawn at the map's own latitudes, geocentric, or geodetic with --ellipsoid, whichever\n\
+              they are in (--outline-ellipsoid), with straight edges between.\n",
     run,
 };
 
@@ -68,14 +73,33 @@ fn run(arguments: &Arguments) -> Result<String, Error> {
         return piece(arguments, out);
     }
     let format = Format::of(out)?;
+    let rings = rings(arguments, matches!(format, Format::Png))?;
     let task = Task::of(arguments)?;
     let values = match arguments.path("--pieces") {
         Some(folder) => rows::join(folder, task.whole()?)?,
         None => task.values(&task.nodes, threads(arguments)?)?,
     };
     let counted = not_finite(&values);
-    let unit = write(out, format, &task.nodes, values, &task.about)?;
+    let unit = write(out, format, &task.nodes, values, &task.about, &rings)?;
     Ok(format!("{}: {} x {} values in {unit}{counted}\n", out.display(), task.nodes.latitudes.len(), task.nodes.longitudes.len()))
+}
+
+/// The rings of the outline that is to be drawn, if there is one, in the latitudes of the map's rows; only a map has room for it.
+fn rings(arguments: &Arguments, map: bool) -> Result<Vec<Ring>, Error> {
+    let Some(path) = arguments.path("--outline") else {
+        return match arguments.has(OUTLINE_ELLIPSOID.name) {
+            true => Err(Error::usage(format!("{} needs --outline, whose latitudes it is about", OUTLINE_ELLIPSOID.name))),
+            false => Ok(Vec::new()),
+        };
+    };
+    if !map {
+        return Err(Error::usage("--outline is drawn on a map; expected --out with a name that ends with .png"));
+    }
+    let latitudes = Latitudes::of(arguments)?;
+    let rows = surface(arguments)?.and_then(|surface| surface.ellipsoid());
+    let outline = outline::load(path, latitudes.on(rows))?;
+    latitudes.tell();
+    Ok(outline.rings)
 }
 
 /// What the answer adds where some values are not finite.
@@ -89,6 +113,7 @@ fn piece(arguments: &Arguments, out: &Path) -> Result<String, Error> {
         Some(text) if has_extension(out, "rows") && !arguments.has("--pieces") => text,
         _ => return Err(Error::usage("a piece of a grid takes --rows FROM/TO and --out PIECE.rows together, and no --pieces")),
     };
+    rings(arguments, false)?;
     let task = Task::of(arguments)?;
     let rows = rows::parse(text, task.nodes.latitudes.len())?;
     let values = task.values(&task.nodes.rows(rows.clone()), threads(arguments)?)?;

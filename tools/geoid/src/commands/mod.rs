@@ -5,7 +5,9 @@ mod caps;
 mod convert;
 mod grid;
 mod info;
+mod kernel;
 mod points;
+mod region;
 mod replace;
 mod sample;
 mod smooth;
@@ -42,10 +44,12 @@ const COMMANDS: &[&Command] = &[
     &grid::COMMAND,
     &points::COMMAND,
     &average::COMMAND,
+    &kernel::COMMAND,
     &subtract::COMMAND,
     &replace::COMMAND,
     &smooth::COMMAND,
     &caps::COMMAND,
+    &region::COMMAND,
     &sample::COMMAND,
 ];
 

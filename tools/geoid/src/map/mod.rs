@@ -3,6 +3,7 @@
 mod bar;
 mod frame;
 mod labels;
+mod outline;
 mod raster;
 mod statistics;
 
@@ -13,6 +14,7 @@ use crate::colours::{BLACK, Colours, WHITE};
 use crate::error::Error;
 use crate::font;
 use crate::grid::Nodes;
+use crate::outline::Ring;
 use crate::png::Image;
 use crate::scale;
 
@@ -41,6 +43,11 @@ pub struct Map<'a> {
 
 /// Draw a map.
 pub fn draw(map: &Map) -> Result<Image, Error> {
+    draw_with(map, &[])
+}
+
+/// Draw a map with the outlines of a basin over its field.
+pub fn draw_with(map: &Map, rings: &[Ring]) -> Result<Image, Error> {
     if map.nodes.latitudes.len() < 2 || map.nodes.longitudes.len() < 2 {
         return Err(Error::failure("a map needs two rows and two columns at least; expected a larger region or a smaller step"));
     }
@@ -51,6 +58,7 @@ pub fn draw(map: &Map) -> Result<Image, Error> {
     let mut canvas = Canvas::new(page, height + TOP + BOTTOM, WHITE);
     let field = Area { left: (page - width) / 2, top: TOP, width, height };
     let contours = raster::draw(&mut canvas, field, map, &colours).then(|| contour_note(&colours, map.unit));
+    outline::draw(&mut canvas, field, map.nodes.region, rings);
     heading(&mut canvas, map, &contours.unwrap_or_default());
     frame::draw(&mut canvas, field, map.nodes.region);
     if let Some(all) = &statistics {

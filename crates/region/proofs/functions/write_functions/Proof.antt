@@ -1,6 +1,7 @@
 -- `functions::write_functions` meets its contract: i functions are written. Assumes nothing.
 use native.Mathlib.Omega.{arith}
-use mathlib.Core.Path.{_≡_, sym, ap}
+use borrow.Author.Needs.{needs}
+use mathlib.Core.Path.{_≡_, sym, ap, _∙_}
 use Prim.Native.Nat.{ℕ, _-_, _*_, _≤_}
 use native.Mathlib.Nat.{mul-le-mul-right}
 use Rattle.storage.specs.Filled.{Filled, filled-none, filled-to}
@@ -20,27 +21,27 @@ abbrev μ-loop : tie.MeasureT-loop
 loop-holds : tie.Need-loop-holds Inv-loop μ-loop
 loop-holds c = (omega arith, omega arith, filled-to filled-none (omega arith))
 
-mul-place : tie.Need-mul-place Inv-loop μ-loop
-mul-place c = omega (arith, c .before .before .before .before .before .pre .1 .1 .1 .0 .long)
+mul-index : tie.Need-mul-index Inv-loop μ-loop
+mul-index c = omega (arith, c .before .before .before .before .before .pre .1 .1 .1 .0 .long)
 
-shared-slice-read-place : tie.Need-shared-slice-read-place Inv-loop μ-loop
-shared-slice-read-place c = omega (arith, c .before .before .before .before .before .before .pre .1 .1 .1 .0 .long)
+shared-slice-read-index : tie.Need-shared-slice-read-index Inv-loop μ-loop
+shared-slice-read-index c = omega (arith, c .before .before .before .before .before .before .pre .1 .1 .1 .0 .long)
 
 row-requires : tie.Need-row-requires Inv-loop μ-loop
 row-requires c κs =
-    let start = c .before .before .before .before .before .before in
+    let start = c .before .before .before .before .before .before .before in
     let d = degree-within 0 (start .args .lmax) (omega arith) (omega arith) in
-    let f = start .pre .1 .1 .1 .0 .inside (c .before .before .loop .i) (c .before .loop-test .taken) in
-    (omega (arith, d, start .pre .1 .0), f)
+    let f = start .pre .1 .1 .1 .0 .inside (c .before .before .before .loop .i) (c .before .before .loop-test .taken) in
+    (omega (arith, d, start .pre .1 .0), omega arith)
 
 add-write-function : tie.Need-add-write-function Inv-loop μ-loop
-add-write-function c = omega (arith, c .row .ensures .inside, c .before .before .before .before .before .before .before .pre .1 .1 .1 .1 .0)
+add-write-function c = omega (arith, c .row .ensures .inside, c .before .before .before .before .before .before .before .before .pre .1 .1 .1 .1 .0)
 
 write-function-requires : tie.Need-write-function-requires Inv-loop μ-loop
 write-function-requires c κs =
-    let start = c .before .before .before .before .before .before .before .before in
-    let loop = c .before .before .before .before .loop in
-    let up = mul-le-mul-right (start .args .table) (c .before .before .before .loop-test .taken) in (
+    let start = c .before .before .before .before .before .before .before .before .before in
+    let loop = c .before .before .before .before .before .loop in
+    let up = mul-le-mul-right (start .args .table) (c .before .before .before .before .loop-test .taken) in (
       start .pre .0,
       (
         omega (arith, c .before .row .ensures .inside, start .pre .1 .0, start .pre .1 .1 .1 .1 .0),
@@ -58,20 +59,21 @@ write-function-requires c κs =
 
 add-to : tie.Need-add-to Inv-loop μ-loop
 add-to c =
-    let start = c .before .before .before .before .before .before .before .before .before .before .before in
-    let loop = c .before .before .before .before .before .before .before .loop in
-    let loop-test = c .before .before .before .before .before .before .loop-test in
+    let start = c .before .before .before .before .before .before .before .before .before .before .before .before in
+    let loop = c .before .before .before .before .before .before .before .before .loop in
+    let loop-test = c .before .before .before .before .before .before .before .loop-test in
     let up = mul-le-mul-right (start .args .table) (loop-test .taken) in
     omega (arith, up, start .pre .1 .1 .0, start .pre .1 .1 .1 .1 .1, loop .inv .1, loop .inv .2 .long)
 
 loop-again : tie.Need-loop-again Inv-loop μ-loop
 loop-again c =
-    let start = c .before .before .before .before .before .before .before .before .before .before .before in
-    let loop = c .before .before .before .before .before .before .before .loop in (
+    let start = c .before .before .before .before .before .before .before .before .before .before .before .before in
+    let loop = c .before .before .before .before .before .before .before .before .loop in
+    let place = c .before .before .before .before .before .index .ensures in (
       omega arith,
       omega (arith, loop .inv .1),
       functions-more _ _ _ _ _ _ _ (loop .inv .2) (filled-to (c .before .before .write-function .ensures)
-          (sym (start .pre .1 .1 .0))) (c .before .before .before .before .row .ensures .is) (loop .inv .1),
+          (sym (start .pre .1 .1 .0))) (c .before .before .before .before .row .ensures .is ∙ ap (λ (f : ℕ). f * start .args .n) place) (loop .inv .1),
     )
 
 same-length : tie.Need-same-length Inv-loop μ-loop
@@ -86,5 +88,5 @@ returns c =
 pub write-functions-spec : {M : Type 1} → statement M
 write-functions-spec =
     tie.close
-    (tie.spec Inv-loop μ-loop loop-holds mul-place shared-slice-read-place row-requires add-write-function write-function-requires add-to
-    (λ c. omega arith) (λ c. omega arith) loop-again same-length returns)
+    (tie.spec Inv-loop μ-loop loop-holds mul-index shared-slice-read-index (λ c κs. search needs) row-requires add-write-function
+    write-function-requires add-to (λ c. omega arith) (λ c. omega arith) loop-again same-length returns)

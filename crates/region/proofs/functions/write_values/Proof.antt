@@ -1,7 +1,10 @@
 -- `functions::write_values` meets its contract: i values are written. Assumes nothing.
 use native.Mathlib.Omega.{arith}
-use mathlib.Core.Path.{refl, sym}
-use Prim.Native.Nat.{_-_, _≤_}
+use borrow.Author.Needs.{needs}
+use mathlib.Core.Path.{sym, ap}
+use Prim.Native.Nat.{ℕ, _-_, _≤_}
+use lib.ListN.{getD}
+use lib.Ieee.{nan}
 use native.Mathlib.Nat.{zero-add}
 use Rattle.storage.specs.Filled.{Filled, filled-none, filled-more, filled-to}
 use Rattle.region.specs.Written.{pickedValue}
@@ -17,23 +20,32 @@ abbrev μ-loop : tie.MeasureT-loop
 loop-holds : tie.Need-loop-holds Inv-loop μ-loop
 loop-holds c = (omega arith, filled-none)
 
-mul-place : tie.Need-mul-place Inv-loop μ-loop
-mul-place c = omega (arith, c .before .before .pre .0 .long)
+mul-index : tie.Need-mul-index Inv-loop μ-loop
+mul-index c = omega (arith, c .before .before .before .before .before .pre .0 .long)
 
-shared-slice-read-place : tie.Need-shared-slice-read-place Inv-loop μ-loop
-shared-slice-read-place c = omega (arith, c .before .before .before .pre .0 .long)
+shared-slice-read-index : tie.Need-shared-slice-read-index Inv-loop μ-loop
+shared-slice-read-index c = omega (arith, c .before .before .before .before .before .before .pre .0 .long)
 
 mul-out : tie.Need-mul-out Inv-loop μ-loop
-mul-out c = let f = c .before .before .before .pre .0 .inside (c .before .before .loop .i) (c .before .loop-test .taken) in omega arith
+mul-out c =
+    let f = c .before .before .before .before .before .before .before .pre .0 .inside (c .before .before .before .loop .i)
+    (c .before .before .loop-test .taken) in
+    omega arith
 
 shared-slice-read-out : tie.Need-shared-slice-read-out Inv-loop μ-loop
 shared-slice-read-out c =
-    let f = c .before .before .before .before .pre .0 .inside (c .before .before .before .loop .i) (c .before .before .loop-test .taken) in
+    let f = c .before .before .before .before .before .before .before .before .pre .0 .inside (c .before .before .before .before .loop .i)
+    (c .before .before .before .loop-test .taken) in
     omega arith
 
 loop-again : tie.Need-loop-again Inv-loop μ-loop
 unfolding pickedValue
-loop-again c = (omega arith, filled-more (c .before .before .before .loop .inv .1) (sym (zero-add _)) refl)
+loop-again c =
+    let a = c .before .before .before .before .before .before .before .before .args in (
+      omega arith,
+      filled-more (c .before .before .before .before .loop .inv .1) (sym (zero-add _))
+          (ap (λ (f : ℕ). getD (a .values .now) f nan) (c .before .index .ensures)),
+    )
 
 same-length : tie.Need-same-length Inv-loop μ-loop
 same-length c = c .before .loop .inv .1 .long
@@ -44,5 +56,5 @@ returns c = filled-to (c .before .loop .inv .1) (omega arith)
 pub write-values-spec : {M : Type 1} → statement M
 write-values-spec =
     tie.close
-    (tie.spec Inv-loop μ-loop loop-holds mul-place shared-slice-read-place mul-out shared-slice-read-out (λ c. omega arith) (λ c. omega arith)
-    (λ c. omega arith) (λ c. omega arith) loop-again same-length returns)
+    (tie.spec Inv-loop μ-loop loop-holds mul-index shared-slice-read-index (λ c κs. search needs) mul-out shared-slice-read-out
+    (λ c. omega arith) (λ c. omega arith) (λ c. omega arith) (λ c. omega arith) loop-again same-length returns)

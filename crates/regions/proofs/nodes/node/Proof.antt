@@ -23,14 +23,14 @@ functions-requires c κs =
 mul-products : tie.Need-mul-products
 mul-products c =
     let k = c .before .before .before .before .before .before .before .before .before .before .before .before .before .before .before .before .before .before .before .before .before .before .before .before in
-    let at = integrals-at (k .args .v) (k .pre .1 .0) (k .pre .0) in
+    let at = integrals-at (k .args .v) (omega arith) (k .pre .1 .0) (k .pre .0) in
     omega (arith, at .small)
 
 products-requires : tie.Need-products-requires
 products-requires c κs =
     let k = c .before .before .before .before .before .before .before .before .before .before .before .before .before .before .before .before .before .before .before .before .before .before .before .before .before in
     let r = k .pre .1 .1 in
-    let at = integrals-at (k .args .v) (k .pre .1 .0) (k .pre .0) in
+    let at = integrals-at (k .args .v) (omega arith) (k .pre .1 .0) (k .pre .0) in
     (r .top, (at .of-s, (at .of-c, r .room-products)))
 
 mul-add-node : tie.Need-mul-add-node

@@ -1,0 +1,2 @@
+pub mod SameEntries
+pub mod DrawnAverage
