@@ -17,7 +17,7 @@
  * Order     A call checks SIZE, then LENGTH, then LOVE, then SPACE; a number that is no functional is refused before all (255).
  * NaN       Any number is ordinary input, NaN and infinities too. The bits of a NaN in an answer are free, but in a model file all bits
  *           are kept.
- * Threads   No entry has state: calls on other lists may run at the same time. polar_cap takes some 0.8 MB of stack, the others less.
+ * Threads   No entry has state: calls on other lists may run at the same time. polar_cap takes some 0.65 MB of stack, the others less.
  */
 #ifndef GEOPOTENTIAL_H
 #define GEOPOTENTIAL_H
@@ -267,8 +267,8 @@ uint32_t geopotential_region(size_t lmax, size_t nodes, const double *weights, s
                              size_t cs_len, double *ss, size_t ss_len, uint32_t *settled, size_t *count);
 /* Basins drawn as polygons. An outline is a list of vertices, at most 4,096, and 0 are allowed: of each its longitude, then its latitude, in
  * radians. Its edges run from each vertex to the next and from the last to the first, straight in longitude and latitude; it may be concave. Any
- * numbers do, but where an outline crosses the dateline or holds a pole its intervals are not the basin's. Longitudes may run beyond a turn: only
- * differences matter.
+ * numbers do, but where an outline crosses the dateline or holds a pole its intervals are not the basin's. Longitudes may run beyond a turn: a
+ * whole turn more or less for all vertices changes nothing but rounding.
  *
  * The longitudes inside an outline at colatitude theta, in radians: *count intervals, each its west end and then its east end, from west to east
  * at the front of out. With the colatitude pi/2 - latitude of each vertex, the edge from (l0, c0) to (l1, c1) counts where the rounded product
@@ -288,9 +288,9 @@ uint32_t geopotential_polygon_breaks(size_t vertices, const double *outline, siz
  * P(l,m) cos(m lon) in kc, and of P(l,m) sin(m lon) in ks, +0.0 at m = 0. Both are tables, used as a model's c and s with gm 1 and radius 1, tide
  * unknown, no date, and lent to basin_average with kmax = L. Up to L = 21 they have the bits of the first row and column of the concentration matrix.
  * The first number, kc[0], is the basin's share of the sphere as the nodes integrate it. The margin of basin_average holds where it is at most 1 in
- * size; of a basin that is nearly the sphere it may be above, by too few nodes or by rounding. weights: nodes; latitudes: 2 nodes; marks: nodes;
- * s, c: (2L+1) nodes, no more than the first L+1 of each node are read; work: 3T with T = (L+1)(L+2)/2, which are overwritten; kc, ks: T. Refused by
- * 1 (L above 2700, or too many nodes), 2, 3. */
+ * size; it can be above, by too few nodes, by rounding for nearly the whole sphere, or by the numbers that are lent. weights: nodes; latitudes: 2
+ * nodes; marks: nodes; s, c: (2L+1) nodes, no more than the first L+1 of each node are read; work: 3T with T = (L+1)(L+2)/2, which are overwritten;
+ * kc, ks: T. Refused by 1 (L above 2700, or too many nodes), 2, 3. */
 uint32_t geopotential_basin_kernel(size_t lmax, size_t nodes, const double *weights, size_t weights_len, const double *latitudes,
                                    size_t latitudes_len, const uint8_t *marks, size_t marks_len, const double *s, size_t s_len,
                                    const double *c, size_t c_len, double *work, size_t work_len, double *kc, size_t kc_len, double *ks,

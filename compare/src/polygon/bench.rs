@@ -1,5 +1,5 @@
-//! Times of the crate `polygon`. The Rust keeps the vertices' colatitudes from its first call on and allocates every answer; ours works them out in each
-//! call, and writes to lists at hand.
+//! Times of the crate `polygon`. The Rust keeps the vertices' colatitudes from its first call on and allocates every answer; ours works them
+//! out in each call, and writes to lists at hand.
 
 use oracle::slepian::polygon;
 

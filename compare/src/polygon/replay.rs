@@ -81,8 +81,9 @@ fn quotient() -> Drawn {
 
 /// One that goes up and down, of more vertices and crossings than the short arrays have room for.
 fn long() -> Vec<(f64, f64)> {
-    let vertex =
-        |k: usize| ((37 * k % 67) as f64 / 16.0, if k % 2 == 0 { 0.25 + k as f64 / 128.0 } else { -0.25 - (k / 4) as f64 / 128.0 });
+    let vertex = |k: usize| {
+        ((37 * k % 67) as f64 / 16.0, if k.is_multiple_of(2) { 0.25 + k as f64 / 128.0 } else { -0.25 - (k / 4) as f64 / 128.0 })
+    };
     (0..66).map(vertex).collect()
 }
 

@@ -16,8 +16,8 @@ const WIDTH: usize = 12;
 
 const NODES: usize = 65_535;
 
-/// The vertices of the cases. Of the first five the equator crosses three edges, for the fifth lies on it, and the fourth has the latitude of the second;
-/// the others lie north of it, each at a latitude of its own.
+/// The vertices of the cases. Of the first five the equator crosses three edges, for the fifth lies on it, and the fourth has the latitude of
+/// the second; the others lie north of it, each at a latitude of its own.
 fn outline() -> Vec<(f64, f64)> {
     let latitude = |k: usize| [0.5, -0.5, 0.25, -0.5, 0.0].get(k).copied().unwrap_or(k as f64 / 32.0 + 0.5);
     (0..32).map(|k| (k as f64 / 8.0, latitude(k))).collect()

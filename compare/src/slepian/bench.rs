@@ -23,7 +23,7 @@ pub fn bench() {
     }
 }
 
-/// A basin of 60 vertices and 472 nodes: its matrix, and its functions.
+/// A basin of 60 vertices and 464 nodes: its matrix, and its functions.
 fn regions(lmax: usize, calls: usize) {
     let of = Region::sixty(lmax);
     let (weights, latitudes, marks, s, c) = (of.weights(), of.latitudes(), of.marks(), of.s(), of.c());

@@ -73,7 +73,7 @@ impl Region {
         Self::of_outline(lmax, &outline, count)
     }
 
-    /// The basin of 60 vertices and 472 nodes that times are taken with.
+    /// The basin of 60 vertices and 464 nodes (two of its vertices share a colatitude) that times are taken with.
     pub fn sixty(lmax: usize) -> Self {
         Self::drawn(lmax, 60, 8, |a| 0.3 + 0.05 * (3.0 * a).sin() + 0.03 * (7.0 * a).cos())
     }

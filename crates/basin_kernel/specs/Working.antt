@@ -1,21 +1,38 @@
 -- The working list of a kernel: the two tables of the recursion at its front, then the powers of a node's u. Assumes nothing.
 use mathlib.Core.Path.{_≡_, refl, sym, ap, ap₂, _∙_}
-use mathlib.Core.List.{List}
-use Prim.Native.Nat.{ℕ, _+_, _-_, _*_, _≤_, _<_}
+use mathlib.Core.List.{List, _++_}
+use Prim.Native.Nat.{ℕ, zero, suc, _+_, _-_, _*_, _≤_, _<_}
 use native.Mathlib.Nat.{zero-add}
+use native.Mathlib.Numerals.{add-one}
 use native.Mathlib.Omega.{arith}
 use lib.ListN.{length, getD, take, drop, length-drop}
 use lib.Seq.{getD-take, getD-drop, length-take-le}
 use lib.Ieee.{Float, nan}
 use Rattle.storage.specs.Elements.{from, from-zero}
 use Rattle.storage.specs.Fill.{fill, drop-fill}
+use Rattle.storage.specs.Store.{fill-front}
 use Rattle.storage.specs.Filled.{Filled, filled, filled-in, filled-before, filled-standing}
-use Rattle.storage.specs.Triangle.{idx, tableSize, along, idx-within}
+use Rattle.storage.specs.Triangle.{idx, rowStart, tableSize, along, idx-within, row-start-one, row-start-more}
 use Rattle.recursion.specs.Recursion.{aCell, bCell, rescale, pCell, p-same}
 use Rattle.recursion.specs.Tables.{withTables}
 use Rattle.legendre.specs.Directions.{rowSine, rowCosine, legendreRow}
 use Rattle.matrix.specs.Layout.{Kept, kept-then}
 use Rattle.basin_kernel.specs.Nodes.{TablesIn}
+
+-- a table has room for the guesses of the roots
+pub guesses-fit : (L : ℕ) → L + L < tableSize L
+guesses-fit zero = omega (arith, row-start-one)
+guesses-fit (suc L) =
+    let h = guesses-fit L in
+    let e = row-start-more (L + 1) in
+    let f = ap (λ (n : ℕ). rowStart (n + 1)) (add-one L) in
+    omega arith
+
+-- a list whose first numbers were lent and came back as x
+pub front-lent : {total : ℕ} (x d : List Float) → length x ≡ total → total ≤ length d → Filled 0 (from 0 x nan) total d (x ++ drop total d)
+front-lent {total} x d e h =
+    filled 0 (from 0 x nan) total d
+    (ap (λ (k : ℕ). x ++ drop k d) (sym e) ∙ sym (fill-front x d nan (omega arith)) ∙ ap (λ (k : ℕ). fill 0 (from 0 x nan) k d) e)
 
 -- the part of a list from index s on, as it is lent
 abbrev pub rest : ℕ → List Float → List Float

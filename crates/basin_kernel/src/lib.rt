@@ -104,8 +104,23 @@ pub fn basin_kernel(
     ) {
         Answer::Refused(e) => Model::Refused(e),
         Answer::Done => {
+            let total = storage::table_size(lmax);
+            // kc lends the room for the tables' guesses before it is cleared: an array would take 43 KB of stack
+            recursion::tables_by(lmax, total, &mut kc[..total], work);
             let made = Head::zeros(1.0, 1.0, lmax, kc, ks);
-            nodes::add_all(lmax, nodes, weights, latitudes, marks, s, c, work, kc, ks);
+            nodes::add_all(
+                lmax,
+                total,
+                nodes,
+                weights,
+                latitudes,
+                marks,
+                s,
+                c,
+                work,
+                kc,
+                ks,
+            );
             made
         }
     }

@@ -117,9 +117,10 @@ fn add_nodes(
     }
 }
 
-// The kernel of lists that are accepted, in tables of zeros.
+// The kernel of lists that are accepted, in tables of zeros, by the tables of the recursion in the working list.
 pub(crate) fn add_all(
     lmax: usize,
+    total: usize,
     nodes: usize,
     weights: &[f64],
     latitudes: &[f64],
@@ -131,7 +132,7 @@ pub(crate) fn add_all(
     ks: &mut [f64],
 )
     requires { ⌜ NodeListsTo 2700 lmax nodes (length (now weights)) (length (now latitudes)) (length (now marks)) (length (now s)) (length (now c)) ⌝
-        ∗ ⌜ 3 * tableSize lmax ≤ length (now work) ⌝ ∗ ⌜ tableSize lmax ≤ length (now kc) ⌝ ∗ ⌜ tableSize lmax ≤ length (now ks) ⌝ }
+        ∗ ⌜ TablesIn lmax total (now work) ⌝ ∗ ⌜ tableSize lmax ≤ length (now kc) ⌝ ∗ ⌜ tableSize lmax ≤ length (now ks) ⌝ }
     requires { ⌜ Filled 0 zeroAt (tableSize lmax) (now kc) (now kc) ⌝ ∗ ⌜ Filled 0 zeroAt (tableSize lmax) (now ks) (now ks) ⌝ }
     ensures { λ _. ⌜ Filled 0
         (along (kernelC lmax (now (weights .entry)) (now (latitudes .entry)) (now (marks .entry)) (now (s .entry)) (now (c .entry)) nodes))
@@ -139,10 +140,8 @@ pub(crate) fn add_all(
     ensures { λ _. ⌜ Filled 0
         (along (kernelS lmax (now (weights .entry)) (now (latitudes .entry)) (now (marks .entry)) (now (s .entry)) (now (c .entry)) nodes))
         (tableSize lmax) (now (ks .entry)) (now (ks .exit)) ⌝ }
-    ensures { λ _. ⌜ Kept (3 * tableSize lmax) (now (work .entry)) (now (work .exit)) ⌝ }
+    ensures { λ _. ⌜ Kept (3 * total) (now (work .entry)) (now (work .exit)) ⌝ }
 {
-    let total = storage::table_size(lmax);
-    recursion::tables(lmax, total, work);
     let mut even = [0.0; 2701];
     let mut odd = [0.0; 2701];
     add_nodes(

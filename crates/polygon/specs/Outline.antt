@@ -65,6 +65,6 @@ distinct l = pickedBefore (isFirst l) (numberAt l) (length l)
 unfoldable pub colatitudes : ℕ → List Float → List Float
 colatitudes v outline = tabulate (colatitudeAt outline) 0 v
 
--- the colatitudes of the vertices, ranked rising, each once
+-- the colatitudes of the vertices, ranked rising, each once but NaN as often as it stands
 unfoldable pub breaksOf : ℕ → List Float → List Float
 breaksOf v outline = distinct (rising (colatitudes v outline))

@@ -76,7 +76,7 @@ pub fn intervals(v: usize, outline: &[f64], theta: f64, work: &mut [f64], out: &
     }
 }
 
-// The breaks of the outline of v vertices: its vertices' colatitudes, rising, each once; answers how many there are. The working list is left as it was.
+// The breaks of the outline of v vertices: its vertices' colatitudes, rising, each once but NaN as often as it stands; answers how many there are. The working list is left as it was.
 pub fn breaks(v: usize, outline: &[f64], work: &mut [f64], out: &mut [f64]) -> Count
     ensures { λ x. ⌜ x ≡ countIf
         (outlineCheck v (length (now (outline .entry))) (length (now (work .entry))) (length (now (out .entry)))

@@ -1,5 +1,5 @@
-// Replays the intervals and the breaks of outlines (polygon_answers.rt), by their entries for C: the refusal's number, 0, how many there are, and all that
-// the output holds.
+// Replays the intervals and the breaks of outlines (polygon_answers.rt), by their entries for C: the refusal's number, 0, how many there are, and all
+// that the output holds.
 use crate::polygon_answers as answers;
 use geopotential::basins::geopotential_polygon_breaks;
 use geopotential::basins::geopotential_polygon_intervals;

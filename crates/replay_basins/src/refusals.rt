@@ -95,8 +95,8 @@ fn told(count: usize) -> u64
     if count != UNTOLD { 101 } else { 0 }
 }
 
-// What is seen of a case, on lists that hold the mark where they are written; the last column says how much of the working list is left free, and of that
-// of `breaks` nothing is.
+// What is seen of a case, on lists that hold the mark where they are written; the last column says how much of the working list is left free, and of
+// that of `breaks` nothing is.
 fn see_outline(of_breaks: bool, case: &[u64]) -> Seen {
     let mut list = [0.0; 64];
     let mut theta = [0.0; 1];

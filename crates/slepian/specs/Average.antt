@@ -2,13 +2,12 @@
 use mathlib.Core.Path.{_≡_, refl, sym, ap, subst, _∙_}
 use mathlib.Core.Bool.{Bool, true, false, not}
 use mathlib.Core.List.{List}
-use Prim.Native.Nat.{ℕ, zero, suc, _+_, _≤_, _<_, min}
+use Prim.Native.Nat.{ℕ, suc, _+_, _≤_, _<_, min}
 use native.Mathlib.Omega.{arith}
-use native.Mathlib.Numerals.{add-one}
 use native.Mathlib.Nat.{le-trans, min-le-left}
 use lib.Dec.{T, ltb}
-use lib.ListN.{length, getD}
-use lib.Ieee.{Float, nan, binary64, fits}
+use lib.ListN.{getD}
+use lib.Ieee.{Float, nan, binary64}
 use lib.Ieee.Scale.{finite}
 use borrow.Author.Tests.{lt-ltb, le-ltb}
 use Rattle.refusal.specs.Numbers.{refuse, refuse-yes, refuse-no, valueIf}
@@ -19,9 +18,9 @@ use Rattle.refusal.specs.declared.Number.the-variants.{Value}
 use Rattle.refusal.specs.declared.Number.the-variants.{Refused as NoValue}
 use Rattle.refusal.specs.declared.Refusal.{Refusal}
 use Rattle.refusal.specs.declared.Refusal.the-variants.{Size, Love}
-use Rattle.number.specs.Float64.{_⊕_, _⊗_, _⊘_, zero64}
+use Rattle.number.specs.Float64.{_⊕_, _⊗_, _⊘_}
 use Rattle.storage.specs.Elements.{from}
-use Rattle.storage.specs.Triangle.{cells, idx, rowStart, row-start-zero}
+use Rattle.storage.specs.Triangle.{cells, rowStart, row-start-zero}
 use Rattle.storage.specs.Checks.{_andThen_, tablesCheck, Tables, tables-passed, both, past, refused-then, done-then}
 use Rattle.functional.specs.declared.Functional.{Functional}
 use Rattle.functional.specs.Factor.{factorOf, factor-fits}
@@ -29,6 +28,12 @@ use Rattle.rounding.specs.Sums.{runningSum, triangleSum}
 use Rattle.rounding.specs.SumSteps.{running-same, triangle-more}
 use Rattle.rounding.specs.Margins.{averageSummand, average, AtMostOne, TableFits, AverageWithin}
 use Rattle.rounding.specs.Theorems.{average-within}
+
+-- demand 3: the answer x, where it is a finite value, is within the margin of the exact average up to degree N of a field c, s with a kernel whose first
+-- number is at most 1 in size
+abbrev pub WithinMargin : (c s kernelC kernelS : ℕ → ℕ → Float) (factor : ℕ → Float) (N : ℕ) (x : Number) → Type 0
+WithinMargin c s kernelC kernelS factor N x =
+    (v : Float) → x ≡ Value v → T (finite v) → AtMostOne (kernelC 0 0) → AverageWithin c s kernelC kernelS factor N v
 
 -- SIZE: a degree above 2700; LENGTH: a table of field or kernel that has not exactly its entries; LOVE: too few Love numbers
 unfoldable pub averageCheck : ℕ → ℕ → ℕ → ℕ → ℕ → ℕ → Bool → Answer
@@ -127,9 +132,7 @@ module _ (nmax clen slen kmax kclen kslen : ℕ) (lacks : Bool) (c s c' s' : Lis
 
   -- where the kernel's first number is at most 1 in size, a finite value times it lies within the margin of the exact sum
   abbrev pub Within : Number → Type 0
-  Within x =
-      (v : Float) → x ≡ Value v → T (finite v) → AtMostOne (cells c' nan 0 0)
-      → AverageWithin (cells c nan) (cells s nan) (cells c' nan) (cells s' nan) (factorOf f love gm radius r) (min nmax kmax) v
+  Within = WithinMargin (cells c nan) (cells s nan) (cells c' nan) (cells s' nan) (factorOf f love gm radius r) (min nmax kmax)
 
   -- whatever is answered has both properties
   pub promised : TableFits (cells c nan) → TableFits (cells s nan) → TableFits (cells c' nan) → TableFits (cells s' nan) → {x : Number} → x ≡ answer

@@ -5,19 +5,16 @@ use refusal::Answer;
 use refusal::Number;
 use refusal::Refusal;
 ghost use mathlib.Core.Path.{_≡_};
-ghost use mathlib.Core.Bool.{Bool};
-ghost use Prim.Native.Nat.{ℕ, _+_, _≤_, _<_, min};
-ghost use lib.Dec.{T};
+ghost use Prim.Native.Nat.{_+_, _≤_, _<_, min};
 ghost use lib.ListN.{length};
-ghost use lib.Ieee.{Float, binary64, nan};
-ghost use lib.Ieee.Scale.{finite};
+ghost use lib.Ieee.{binary64, nan};
 ghost use Rattle.refusal.specs.Numbers.{valueIf};
 ghost use Rattle.refusal.specs.declared.Number.the-variants.{Value};
 ghost use Rattle.storage.specs.Triangle.{cells, tableSize};
 ghost use Rattle.functional.specs.Factor.{factorOf, lacksLove};
 ghost use Rattle.rounding.specs.Sums.{runningSum, triangleSum};
-ghost use Rattle.rounding.specs.Margins.{averageSummand, average, AtMostOne, AverageWithin};
-ghost use Rattle.slepian.specs.Average.{averageCheck, degreeTerm};
+ghost use Rattle.rounding.specs.Margins.{averageSummand, average};
+ghost use Rattle.slepian.specs.Average.{WithinMargin, averageCheck, degreeTerm};
 
 // The terms of degree n, which start at index `at`, added to a sum one after the other.
 fn add_degree(
@@ -125,11 +122,10 @@ pub fn basin_average(
         (average (cells (now (c .entry)) nan) (cells (now (s .entry)) nan) (cells (now (kc .entry)) nan) (cells (now (ks .entry)) nan)
         (factorOf functional (now (love .entry)) (field .gm) (field .radius) r)
         (min (field .nmax) (kernel .nmax))) ⌝ }
-    ensures { λ x. ⌜ ((v : Float) → x ≡ Value v → T (finite v) → AtMostOne (cells (now (kc .entry)) nan 0 0)
-        → AverageWithin
+    ensures { λ x. ⌜ WithinMargin
         (cells (now (c .entry)) nan) (cells (now (s .entry)) nan) (cells (now (kc .entry)) nan) (cells (now (ks .entry)) nan)
         (factorOf functional (now (love .entry)) (field .gm) (field .radius) r)
-        (min (field .nmax) (kernel .nmax)) v) ⌝ }
+        (min (field .nmax) (kernel .nmax)) x ⌝ }
 {
     let top = storage::smaller(field.nmax, kernel.nmax);
     let lacks = functional.lacks_love(love.len(), top);
