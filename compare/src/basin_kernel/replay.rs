@@ -1,5 +1,5 @@
-//! The oracle's kernels of small regions: of three nodes, one of them skipped, with ordinary numbers (degrees 0, 1, 2, 3, 7 and 12) and with strange
-//! ones.
+//! The oracle's kernels of small regions: of three nodes, one of them skipped, with ordinary numbers (degrees 0, 1, 2, 3, 7, 12 and 22) and with strange
+//! ones, and of nodes that are all skipped.
 
 use oracle::slepian::basin_kernel;
 use oracle::standins::Node;
@@ -28,6 +28,13 @@ fn zeros() -> Region {
     Region { lmax: 2, nodes: vec![node(-0.0), node(f64::from_bits(1))] }
 }
 
+/// Nodes of degree 2 that are all skipped.
+fn skipped() -> Region {
+    let mut of = ordinary(2);
+    of.nodes.iter_mut().for_each(|node| node.mark = 0);
+    of
+}
+
 fn list(comment: &str, name: &str, numbers: &[f64]) -> String {
     array(comment, name, &numbers.iter().map(|&x| number(x)).collect::<Vec<_>>())
 }
@@ -47,8 +54,8 @@ fn constants(name: &str, of: &Region) -> String {
 pub fn replay() -> String {
     let mut text = String::from("// The oracle's kernels, numbers as bit patterns.\n");
     text += "// Written by `compare/run replay basin_kernel FILE` (see compare/README.md), never by hand.\n";
-    [0, 1, 2, 3, 7, 12].iter().for_each(|&lmax| text += &constants(&format!("OF_{lmax}"), &ordinary(lmax)));
-    [("STRANGE", strange()), ("LARGE", large()), ("NONE", none()), ("ZEROS", zeros())]
+    [0, 1, 2, 3, 7, 12, 22].iter().for_each(|&lmax| text += &constants(&format!("OF_{lmax}"), &ordinary(lmax)));
+    [("STRANGE", strange()), ("LARGE", large()), ("NONE", none()), ("ZEROS", zeros()), ("SKIPPED", skipped())]
         .iter()
         .for_each(|(name, of)| text += &constants(name, of));
     text

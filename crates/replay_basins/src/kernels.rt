@@ -1,6 +1,9 @@
 // Replays kernels (kernel_answers.rt), by their entry for C: the refusal's number, 0, and the two tables with a place behind each.
 use crate::kernel_answers as answers;
+use coefficients::Head;
+use coefficients::Model;
 use geopotential::basins::geopotential_basin_kernel;
+use number::bits_of_number;
 use replay_cases::MARK;
 use replay_print::show;
 use replay_print::show_words;
@@ -268,7 +271,121 @@ fn show_zeros() {
     );
 }
 
+// Nodes that are all skipped, and no nodes: the same tables of zeros.
+fn show_skipped() {
+    let mut weights = [0.0; 3];
+    let mut latitudes = [0.0; 6];
+    let mut s = [0.0; 15];
+    let mut c = [0.0; 15];
+    replay::load(&answers::SKIPPED_WEIGHTS, 0, &mut weights);
+    replay::load(&answers::SKIPPED_LATITUDES, 0, &mut latitudes);
+    replay::load(&answers::SKIPPED_S, 0, &mut s);
+    replay::load(&answers::SKIPPED_C, 0, &mut c);
+    show_kernel(
+        2,
+        &weights,
+        &latitudes,
+        &answers::SKIPPED_MARKS,
+        &s,
+        &c,
+        &answers::SKIPPED_KC,
+        &answers::SKIPPED_KS,
+    );
+}
+
+fn show_no_nodes() {
+    let none: [f64; 0] = [];
+    let marks: [u8; 0] = [];
+    show_kernel(
+        2,
+        &none,
+        &none,
+        &marks,
+        &none,
+        &none,
+        &answers::SKIPPED_KC,
+        &answers::SKIPPED_KS,
+    );
+}
+
+// Degree 22, above those of a concentration matrix, by lists of its own.
+fn show_of_22() {
+    let mut weights = [0.0; 3];
+    let mut latitudes = [0.0; 6];
+    let mut s = [0.0; 135];
+    let mut c = [0.0; 135];
+    replay::load(&answers::OF_22_WEIGHTS, 0, &mut weights);
+    replay::load(&answers::OF_22_LATITUDES, 0, &mut latitudes);
+    replay::load(&answers::OF_22_S, 0, &mut s);
+    replay::load(&answers::OF_22_C, 0, &mut c);
+    show_22(&weights, &latitudes, &s, &c);
+}
+
+fn show_22(weights: &[f64; 3], latitudes: &[f64; 6], s: &[f64; 135], c: &[f64; 135]) {
+    let mut work = [MARK; 828];
+    let mut kc = [MARK; 277];
+    let mut ks = [MARK; 277];
+    let number = geopotential_basin_kernel(
+        22,
+        3,
+        weights,
+        latitudes,
+        &answers::OF_22_MARKS,
+        s,
+        c,
+        &mut work,
+        &mut kc,
+        &mut ks,
+    );
+    show_words(b"basin_kernel, refusal ", &[number as u64], &[0], 0);
+    show(b"basin_kernel, kc ", &kc, &answers::OF_22_KC, 0);
+    show(b"basin_kernel, ks ", &ks, &answers::OF_22_KS, 0);
+}
+
+// The numbers of a head.
+fn show_head(head: Head, due: &[u64; 5]) {
+    let tide = head.tide_system;
+    let date = head.date;
+    let words = [
+        bits_of_number(head.gm),
+        bits_of_number(head.radius),
+        coefficients::tide_number(tide) as u64,
+        coefficients::dated_number(date) as u64,
+        head.nmax as u64,
+    ];
+    show_words(b"basin_kernel, head ", &words, due, 0);
+}
+
+// The head that the call answers, which its entry for C does not hand on: gm and radius 1, the tide system unknown, no date, degree 1.
+fn show_made() {
+    let none: [f64; 0] = [];
+    let marks: [u8; 0] = [];
+    let mut work = [MARK; 9];
+    let mut kc = [MARK; 3];
+    let mut ks = [MARK; 3];
+    match basin_kernel::basin_kernel(
+        1,
+        0,
+        &none,
+        &none,
+        &marks,
+        &none,
+        &none,
+        &mut work,
+        &mut kc,
+        &mut ks,
+    ) {
+        Model::Made(head) => {
+            show_head(head, &[0x3ff0000000000000, 0x3ff0000000000000, 3, 0, 1]);
+        }
+        Model::Refused(_) => {
+            io::write_all(1, b"basin_kernel refused\n");
+        }
+    }
+}
+
 pub fn show_kernels() {
+    show_made();
     show_of_0();
     show_of_1();
     show_of_2();
@@ -279,4 +396,7 @@ pub fn show_kernels() {
     show_large();
     show_none();
     show_zeros();
+    show_skipped();
+    show_no_nodes();
+    show_of_22();
 }
