@@ -5,8 +5,8 @@ use native.Mathlib.Nat.{zero-add, min-le-left}
 use mathlib.Core.Path.{sym}
 use lib.ListN.{length-take}
 use lib.Seq.{length-take-le}
-use Rattle.replay_basins.proofs.kernels.show_front.Statement.{statement}
-use Rattle.replay_basins.proofs.kernels.show_front.Tie as tie
+use Rattle.replay_kernels.proofs.kernels.show_front.Statement.{statement}
+use Rattle.replay_kernels.proofs.kernels.show_front.Tie as tie
 
 slice-aggregate-show : tie.Need-slice-aggregate-show
 slice-aggregate-show c = sym (length-take-le _ _ (omega arith))
