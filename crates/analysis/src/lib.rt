@@ -1,4 +1,6 @@
 // The coefficients of a field from the values of a functional on a grid: Gauss–Legendre quadrature over the latitudes, a plain sum over the longitudes.
+#![tactic(auto)]
+
 mod rows;
 mod workspace;
 

@@ -1,5 +1,7 @@
 // The kernel of a basin (Swenson & Wahr 2002), from nodes in colatitude that the caller lends: what a field is averaged with over the basin. It is the
 // first row of the basin's concentration matrix.
+#![tactic(auto)]
+
 mod nodes;
 mod rows;
 

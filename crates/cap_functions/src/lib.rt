@@ -1,4 +1,6 @@
 // The functions of a polar cap: where they and their vectors stand, and the answer by their ranked places.
+#![tactic(auto)]
+
 pub mod ranked;
 
 ghost use Rattle.std.specs.Prelude.{◌≡◌, ◌+◌, ◌*◌, ◌≤◌, length};

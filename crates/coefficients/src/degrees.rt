@@ -27,7 +27,7 @@ fn degree_sum(at: usize, n: usize, c: &[f64], s: &[f64]) -> f64
 }
 
 // The sums of two rows that follow each other.
-#[derive(Drop)]
+#[derive(Clone, Copy)]
 struct RowSums {
     first: f64,
     second: f64,

@@ -1,5 +1,7 @@
 // Spherical-harmonic gravity fields: fully normalized (4π, no Condon–Shortley phase) Stokes coefficients C(n,m) and S(n,m) in two lent lists,
 // row by row, beside a head by value.
+#![tactic(auto)]
+
 mod degrees;
 mod tables;
 
@@ -20,7 +22,7 @@ use refusal::{Answer, Number, Refusal};
 use storage::Index;
 
 // How the permanent tide is treated in C(2,0).
-#[derive(Drop)]
+#[derive(Clone, Copy)]
 pub enum TideSystem {
     // no permanent tide, direct or indirect
     TideFree,
@@ -33,14 +35,14 @@ pub enum TideSystem {
 }
 
 // The day of a field: none stated, or days from 2000-01-01.
-#[derive(Drop)]
+#[derive(Clone, Copy)]
 pub enum Date {
     None,
     Days(i32),
 }
 
 // What belongs to a field beside its coefficients.
-#[derive(Drop)]
+#[derive(Clone, Copy)]
 pub struct Head {
     // geocentric gravitational constant GM, m³/s²
     pub gm: f64,
@@ -55,7 +57,7 @@ pub struct Head {
 }
 
 // What a call answers that makes a field.
-#[derive(Drop)]
+#[derive(Clone, Copy)]
 pub enum Model {
     Made(Head),
     Refused(Refusal),

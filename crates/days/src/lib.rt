@@ -1,4 +1,6 @@
 // A day as a model file has it: the signed count of days from 2000-01-01, as the 32 bits of its two's complement, and back.
+#![tactic(auto)]
+
 ghost use Rattle.std.specs.Prelude.{◌≡◌};
 ghost use Rattle.days.specs.Days.{pattern_of, days_of};
 

@@ -1,6 +1,8 @@
 // The derivative of a table by latitude, row by row along its storage. What an entry's neighbours count for does not depend on the latitude: these
 // weights are roots, and within a row the root at m that belongs to m + 1 is the one at m + 1 that belongs to m, so that each entry has one weight,
 // by way of a guess from a product of tabled roots.
+#![tactic(auto)]
+
 ghost use Rattle.std.specs.Prelude.{◌≡◌, ℕ, ◌+◌, ◌≤◌, ◌<◌, length};
 ghost use Rattle.std.specs.Float.{nan};
 ghost use Rattle.storage.specs.Elements.{from};

@@ -1,5 +1,7 @@
 // The sums over the longitudes of one row: for each order m the row's values times the cosines of m times the longitude and times the sines, the
 // pairs of these sums order after order. Each sum is one chain of additions; four orders at a time keep eight chains going side by side.
+#![tactic(auto)]
+
 ghost use Rattle.std.specs.Prelude.{◌≡◌, ◌+◌, ◌*◌, ◌≤◌, ◌<◌, length};
 ghost use Rattle.storage.specs.Filled.{Filled};
 ghost use Rattle.storage.specs.Rectangle.{by_rows};
@@ -8,7 +10,7 @@ ghost use Rattle.fourier_analysis.specs.Longitudes.{sum_from, pair_from, FourOrd
 use storage::Eight;
 
 // The two sums of one order: a with the cosines, b with the sines.
-#[derive(Drop)]
+#[derive(Clone, Copy)]
 pub struct OrderSums {
     pub a: f64,
     pub b: f64,

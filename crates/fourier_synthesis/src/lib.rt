@@ -1,5 +1,7 @@
 // The values along one row of a grid, from its lumped coefficients: x[m] goes with the cosine of m times the longitude, y[m] with the sine. Each value
 // is one chain of additions over the orders; eight longitudes at a time keep eight chains going side by side.
+#![tactic(auto)]
+
 ghost use Rattle.std.specs.Prelude.{◌≡◌, ℕ, ◌+◌, ◌-◌, ◌*◌, ◌≤◌, ◌<◌, length};
 ghost use Rattle.storage.specs.Filled.{Filled};
 ghost use Rattle.fourier_synthesis.specs.Longitudes.{point_from, point_at, point_after, EightPoints};

@@ -1,4 +1,6 @@
 // The functionals of a gravity field: for each, the factor that multiplies the harmonic sum of a degree.
+#![tactic(auto)]
+
 ghost use Rattle.std.specs.Prelude.{◌≡◌, ℕ, ◌+◌, ◌≤◌, ◌<◌, length};
 ghost use Rattle.storage.specs.Filled.{Filled};
 ghost use Rattle.functional.specs.Factor.{factor_of, lacks_love, factor_answer};
@@ -13,7 +15,7 @@ pub const RHO_WATER: f64 = 1000.0;
 
 // A quantity that is a multiple, degree by degree, of the harmonic sum of P(n,m) (C(n,m) cos mλ + S(n,m) sin mλ) over m, in spherical
 // approximation. The load Love numbers of WaterHeight are lent beside it.
-#[derive(Drop)]
+#[derive(Clone, Copy)]
 pub enum Functional {
     // gravitational potential V, m²/s²
     Potential,

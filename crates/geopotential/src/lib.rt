@@ -4,6 +4,8 @@
 // Parameters stand in the order of the Rattle call; a list is a pointer and then its length; a small record goes field by field; an enum
 // is its number; numbers that are answered go through pointers at the end and are left alone on a refusal; the result is the
 // refusal's number, 0 where the call is done. Calls that can't refuse return their number.
+#![tactic(auto)]
+
 pub mod analyses;
 pub mod basins;
 pub mod caps;

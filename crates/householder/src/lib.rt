@@ -1,5 +1,7 @@
 // The reduction of a matrix to tridiagonal form by Householder reflections. The matrix and the product of the reflections are held column by
 // column: each column is a run of the storage, and every inner loop goes along runs.
+#![tactic(auto)]
+
 pub mod accumulation;
 mod columns;
 pub mod reflection;

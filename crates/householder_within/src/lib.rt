@@ -1,5 +1,7 @@
 // The reduction of a symmetric matrix to tridiagonal form inside one list: the matrix at its front, the product of the reflections from index `at` on,
 // both column by column. Two parts of one list can't be lent for writing at once, and no step needs both.
+#![tactic(auto)]
+
 ghost use Rattle.std.specs.Prelude.{◌≡◌, ◌+◌, ◌*◌, ◌≤◌, ◌<◌, length, drop};
 ghost use Rattle.storage.specs.Filled.{Filled};
 ghost use Rattle.matrix.specs.Matrix.{diagonal_cell};

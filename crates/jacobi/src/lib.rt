@@ -1,5 +1,7 @@
 // Eigenvalues and eigenvectors of a symmetric matrix by cyclic Jacobi rotations. The product of the rotations is held column by column, so that its
 // columns, which are rotated, are runs of the storage.
+#![tactic(auto)]
+
 ghost use Rattle.std.specs.Prelude.{◌≡◌, ◌++◌, ◌+◌, ◌*◌, ◌≤◌, ◌<◌, length, drop};
 ghost use Rattle.matrix.specs.Layout.{plain, Kept, Room};
 ghost use Rattle.jacobi.specs.Jacobi.{state, squares, add_off_row, off_squares, ratio, tangent, cosine, rotate, rotate_at, sweep_row, sweep, sweeps};
@@ -7,7 +9,7 @@ ghost use Rattle.jacobi.specs.Jacobi.{jacobi, jacobi_values, jacobi_vectors, jac
 ghost use Rattle.jacobi.specs.JacobiLaws.{held, Became};
 
 // How many sweeps there were, and whether the test before one was met.
-#[derive(Drop)]
+#[derive(Clone, Copy)]
 pub struct Settled {
     pub sweeps: usize,
     pub settled: bool,

@@ -1,6 +1,8 @@
 // Fully normalized associated Legendre functions (4π normalization, no Condon–Shortley phase), by the modified forward column recursion of
 // Holmes & Featherstone (2002): it runs on P(n, m) / u^m, scaled by 1e-280 against overflow, and the power of the cosine u comes last. Numbers that
 // are no sine and cosine, or no coefficients of `new`, are answered too, and a column of theirs may overflow.
+#![tactic(auto)]
+
 pub mod directions;
 mod mirrors;
 pub mod rows;
@@ -21,7 +23,7 @@ ghost use Rattle.legendre.specs.Mirrored.{mirrored};
 use refusal::{Answer, Number, Refusal};
 
 // A geocentric latitude by its sine t and its cosine u.
-#[derive(Drop)]
+#[derive(Clone, Copy)]
 pub struct Latitude {
     pub t: f64,
     pub u: f64,

@@ -1,5 +1,7 @@
 // How long the lists of each call must be: each function tells the lengths for the call of its name, at the front of `lengths`, in the order of the
 // call's list parameters. Love numbers are told as many as water heights need; other functionals read none.
+#![tactic(auto)]
+
 mod leaves;
 
 ghost use Rattle.std.specs.Prelude.{◌≡◌, length};

@@ -1,5 +1,7 @@
 // Eigenvalues and eigenvectors of a symmetric matrix: values in no particular order, vectors as columns. A matrix that has not settled is still
 // answered, and the answer says so.
+#![tactic(auto)]
+
 pub mod within;
 
 ghost use Rattle.std.specs.Prelude.{◌≡◌, ◌+◌, ◌*◌, ◌≤◌, length};
@@ -21,14 +23,14 @@ pub const MAX_ROWS: usize = 512;
 // How a solver ended. Jacobi rotations settle where their test passes before one of the hundred sweeps, and the count is of sweeps done; the QL
 // iteration where each number meets its stopping test within its hundred rounds, and the count is of all rounds that went past the test, those that
 // broke off on a zero among them. That a solver settled says nothing of how near the answer is.
-#[derive(Drop)]
+#[derive(Clone, Copy)]
 pub struct Convergence {
     pub settled: bool,
     pub count: usize,
 }
 
 // What a solver answers.
-#[derive(Drop)]
+#[derive(Clone, Copy)]
 pub enum Solution {
     Solved(Convergence),
     Refused(Refusal),

@@ -1,4 +1,6 @@
 // The potential and its derivatives at one point, and what a point on the rotating body senses of them.
+#![tactic(auto)]
+
 ghost use Rattle.std.specs.Prelude.{◌≡◌};
 ghost use Rattle.local.specs.Local.{acceleration_of, gravity_of};
 ghost use Rattle.local.specs.Point.{point_number};
@@ -8,7 +10,7 @@ use legendre::Latitude;
 use refusal::Refusal;
 
 // The gravitational potential and its first partial derivatives at one point.
-#[derive(Drop)]
+#[derive(Clone, Copy)]
 pub struct Partials {
     // V, m²/s²
     pub v: f64,
@@ -21,14 +23,14 @@ pub struct Partials {
 }
 
 // What the call for one point answers.
-#[derive(Drop)]
+#[derive(Clone, Copy)]
 pub enum Point {
     At(Partials),
     Refused(Refusal),
 }
 
 // The potential with its first and second partial derivatives at one point: what a gravity-gradient tensor is made of.
-#[derive(Drop)]
+#[derive(Clone, Copy)]
 pub struct SecondPartials {
     // V, ∂V/∂r, ∂V/∂φ, ∂V/∂λ
     pub first: Partials,
@@ -47,7 +49,7 @@ pub struct SecondPartials {
 }
 
 // What the call for the second derivatives at one point answers.
-#[derive(Drop)]
+#[derive(Clone, Copy)]
 pub enum SecondPoint {
     At(SecondPartials),
     Refused(Refusal),

@@ -1,5 +1,7 @@
 // The lumped coefficients of one latitude: for each order the sum over the degrees. The Legendre functions are not stored: each row is worked out from
 // the two rows of the recursion before it, and its numbers are added to the sums at once.
+#![tactic(auto)]
+
 ghost use Rattle.std.specs.Prelude.{◌≡◌, ℕ, ◌+◌, ◌≤◌, ◌<◌, length, get_or};
 ghost use Rattle.std.specs.Float.{binary64, nan};
 ghost use Rattle.storage.specs.Elements.{zero_at, from};

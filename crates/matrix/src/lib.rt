@@ -1,4 +1,6 @@
 // Square matrices in the first n * n numbers of a list, row by row: what both eigensolvers ask of them.
+#![tactic(auto)]
+
 ghost use Rattle.std.specs.Prelude.{◌≡◌, ◌*◌, ◌+◌, ◌≤◌, ◌<◌, length};
 ghost use Rattle.std.specs.Float.{nan};
 ghost use Rattle.storage.specs.Elements.{from};

@@ -57,11 +57,11 @@ module _ (s : List ℕ) (at : ℕ) where
 -- ---- what accepted records say of the bytes
 
 -- a ground that did not refuse does not hold
-record Passed (ground : Bool) (x : Answer) : Type 0 where
-  holds_not : ground ≡ false
+record Passed (reason : Bool) (x : Answer) : Type 0 where
+  holds_not : reason ≡ false
   on : x ≡ Done
 
-passed : (ground : Bool) (e : Refusal) (x : Answer) → refuse ground e x ≡ Done → Passed ground x
+passed : (reason : Bool) (e : Refusal) (x : Answer) → refuse reason e x ≡ Done → Passed reason x
 unfolding refuse
 passed true e x p = let z : ◌≡◌ {A = ℕ} 0 1 = cc in absurd (omega arith)
 passed false e x p = record { holds_not = refl; on = p }

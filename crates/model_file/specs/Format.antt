@@ -19,7 +19,7 @@ use Rattle.model_file.specs.LittleEndian.{bytes_of, number_at, words_at}
 
 -- a ground that holds refuses, before what comes after it is looked at
 unfoldable pub refuse_reading : Bool → Refusal → Reading → Reading
-refuse_reading ground e other = cond ground (Refused e) other
+refuse_reading reason e other = cond reason (Refused e) other
 
 -- ---- the head: kind 1 and a body of 19 bytes, or, of a model with a date, kind 4 and the same body followed by the day count in four bytes
 abbrev pub is_head : ℕ → Bool

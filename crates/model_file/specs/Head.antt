@@ -45,11 +45,11 @@ module _ (s : List ℕ) where
           simp (lt-leb (length s) 0 h, e, le-ltb (length s) (head_size (date_at s)) b, le-ltb 3 (get_or s 17 0) t, le-ltb 2700 (number_at 2 s 18) n)
 
 -- a ground that did not refuse does not hold
-record Passed (ground : Bool) (x y : Reading) : Type 0 where
-  holds_not : ground ≡ false
+record Passed (reason : Bool) (x y : Reading) : Type 0 where
+  holds_not : reason ≡ false
   on : x ≡ y
 
-passed : (ground : Bool) (e : Refusal) (x : Reading) (h : FileHead) → refuse_reading ground e x ≡ Model h → Passed ground x (Model h)
+passed : (reason : Bool) (e : Refusal) (x : Reading) (h : FileHead) → refuse_reading reason e x ≡ Model h → Passed reason x (Model h)
 unfolding refuse_reading
 passed true e x h p = let z : ◌≡◌ {A = ℕ} 0 1 = cc in absurd (omega arith)
 passed false e x h p = record { holds_not = refl; on = p }

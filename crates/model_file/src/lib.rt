@@ -1,5 +1,7 @@
 // The model file: a head, the pairs of coefficients in table order, and an end, each record one byte of kind and then its body.
 // Numbers go by their bit patterns, so that all bits survive, a NaN's too.
+#![tactic(auto)]
+
 mod words;
 
 ghost use Rattle.std.specs.Prelude.{◌≡◌, ◌+◌, ◌*◌, ◌≤◌, ◌<◌, length};
@@ -15,7 +17,7 @@ use coefficients::{Date, TideSystem};
 use refusal::{Answer, Refusal};
 
 // A file's head. gm and radius are the bit patterns of doubles.
-#[derive(Drop)]
+#[derive(Clone, Copy)]
 pub struct FileHead {
     pub gm: u64,
     pub radius: u64,
@@ -25,7 +27,7 @@ pub struct FileHead {
 }
 
 // What reading a file answers.
-#[derive(Drop)]
+#[derive(Clone, Copy)]
 pub enum Reading {
     Model(FileHead),
     Refused(Refusal),

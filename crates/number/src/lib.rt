@@ -1,5 +1,7 @@
 // What the library needs of numbers beyond the four operations: square root, hypot, sign, powers, the ranking order and bit patterns.
 // Every call is total and equal to a definition in specs/.
+#![tactic(auto)]
+
 mod root_digits;
 mod root_estimate;
 

@@ -62,7 +62,7 @@ fn is_less(x: u64, y: u64) -> u64
 }
 
 // Digits, and whether they are known to be the nearest to the root.
-#[derive(Drop)]
+#[derive(Clone, Copy)]
 pub struct Checked {
     pub digits: u64,
     pub nearest: bool,

@@ -1,4 +1,6 @@
 // The gravitational potential of a field and its first partial derivatives at points.
+#![tactic(auto)]
+
 mod points;
 mod workspace;
 

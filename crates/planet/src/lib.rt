@@ -1,4 +1,6 @@
 // Heads that describe a planet (document 02, W8): gm and radius finite and above zero, told from their bit patterns.
+#![tactic(auto)]
+
 ghost use Rattle.std.specs.Prelude.{◌≡◌};
 ghost use Rattle.planet.specs.Planet.{above_zero, describes_planet};
 

@@ -1,4 +1,6 @@
 // The lists of the calls for points: the checks of their sizes, and the tables at the front of the working list.
+#![tactic(auto)]
+
 ghost use Rattle.std.specs.Prelude.{◌≡◌, ℕ, ◌+◌, ◌≤◌, ◌<◌, length};
 ghost use Rattle.storage.specs.Triangle.{table_size};
 ghost use Rattle.local.specs.Point.{point_check_of, along_check_of};

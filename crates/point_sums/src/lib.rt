@@ -1,5 +1,7 @@
 // The sums over the degrees at one point. Neither the Legendre functions nor their derivatives are stored: each row is worked out from the two rows
 // of the recursion before it, and its numbers are added at once.
+#![tactic(auto)]
+
 ghost use Rattle.std.specs.Prelude.{◌≡◌, ℕ, ◌+◌, ◌≤◌, ◌<◌, length, get_or};
 ghost use Rattle.std.specs.Float.{nan};
 ghost use Rattle.storage.specs.Elements.{from};
@@ -12,7 +14,7 @@ ghost use Rattle.point_lists.specs.Tables.{Tabled};
 ghost use Rattle.point_sums.specs.Sums.{cosine_from, sine_from, with_row, with_degree, PointRoom, point_sums};
 
 // The sums of one degree over its orders: of P, of its derivative by latitude, and of its derivative by longitude.
-#[derive(Drop)]
+#[derive(Clone, Copy)]
 pub struct RowSums {
     pub even: f64,
     pub north: f64,
@@ -20,7 +22,7 @@ pub struct RowSums {
 }
 
 // The sums over the degrees so far, and the next power of radius / r.
-#[derive(Drop)]
+#[derive(Clone, Copy)]
 pub struct DegreeSums {
     pub power: f64,
     pub v: f64,

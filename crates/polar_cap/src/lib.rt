@@ -1,4 +1,6 @@
 // The Slepian functions of a polar cap, best concentrated first (Simons, Dahlen & Wieczorek 2006).
+#![tactic(auto)]
+
 mod cap;
 mod polar;
 
@@ -18,7 +20,7 @@ use refusal::Answer;
 pub const MAX_CAP: usize = 180;
 
 // How many functions there are and how many numbers their vectors have, where the concentrations stand in the working list, and how much of it is used.
-#[derive(Drop)]
+#[derive(Clone, Copy)]
 pub struct Sizes {
     pub functions: usize,
     pub numbers: usize,

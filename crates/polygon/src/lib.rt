@@ -1,4 +1,6 @@
 // Basins drawn as polygons: where a circle of colatitude runs inside an outline, and the colatitudes of its vertices, between which it is integrated.
+#![tactic(auto)]
+
 mod colatitudes;
 mod edges;
 mod ends;
@@ -17,7 +19,7 @@ use refusal::{Answer, Refusal};
 pub const MAX_VERTICES: usize = 4096;
 
 // How many intervals or breaks a call has written, or why it is refused.
-#[derive(Drop)]
+#[derive(Clone, Copy)]
 pub enum Count {
     Of(usize),
     Refused(Refusal),

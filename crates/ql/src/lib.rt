@@ -1,12 +1,14 @@
 // The implicit QL iteration with Wilkinson shifts on a symmetric tridiagonal matrix: d is its diagonal, e has the numbers beside it, and q is
 // multiplied by the rotations. It is held column by column, so that the columns that are rotated are runs of the storage.
+#![tactic(auto)]
+
 ghost use Rattle.std.specs.Prelude.{◌≡◌, ◌&&◌, ℕ, ◌+◌, ◌≤◌, ◌<◌, length};
 ghost use Rattle.matrix.specs.Layout.{Kept, Room};
 ghost use Rattle.ql.specs.Ql.{chase, state, coupled, signed, ratio, shifted, start, next, broken, rotate_by, rotate_at, rotations, closed, round, rounds, iteration};
 ghost use Rattle.ql.specs.QlLaws.{BlockEnd, Lists, held, Became, Closed, Rounded, Counted};
 
 // The last rotation of a round, as the cosine c and the sine s, with what the next one needs; and whether the round broke off.
-#[derive(Drop)]
+#[derive(Clone, Copy)]
 pub struct Rotation {
     pub s: f64,
     pub c: f64,
@@ -16,7 +18,7 @@ pub struct Rotation {
 }
 
 // How many rounds there were, and whether every stopping test was met.
-#[derive(Drop)]
+#[derive(Clone, Copy)]
 pub struct Settled {
     pub rounds: usize,
     pub settled: bool,

@@ -8,14 +8,14 @@ ghost use Rattle.quadrature.specs.Gauss.{mirror_from, lower_from};
 ghost use Rattle.quadrature.specs.GaussLaws.{FourStored};
 
 // P_(n−1) and P_n at one place.
-#[derive(Drop)]
+#[derive(Clone, Copy)]
 struct Polynomials {
     p0: f64,
     p1: f64,
 }
 
 // The same at four places.
-#[derive(Drop)]
+#[derive(Clone, Copy)]
 struct FourPolynomials {
     a: Polynomials,
     b: Polynomials,
@@ -25,7 +25,7 @@ struct FourPolynomials {
 
 // A root of P_n while Newton's method corrects it: the root so far, P_n' where the last correction began, whether that correction was small
 // enough to be the last, and how many there were.
-#[derive(Drop)]
+#[derive(Clone, Copy)]
 struct Newton {
     z: f64,
     dp: f64,
@@ -34,7 +34,7 @@ struct Newton {
 }
 
 // Four roots.
-#[derive(Drop)]
+#[derive(Clone, Copy)]
 struct FourRoots {
     a: Newton,
     b: Newton,
@@ -43,7 +43,7 @@ struct FourRoots {
 }
 
 // Four numbers.
-#[derive(Drop)]
+#[derive(Clone, Copy)]
 struct Four {
     a: f64,
     b: f64,

@@ -1,4 +1,6 @@
 // Gauss–Legendre quadrature.
+#![tactic(auto)]
+
 mod gauss;
 
 ghost use Rattle.std.specs.Prelude.{◌≡◌, length};

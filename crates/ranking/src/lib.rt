@@ -1,5 +1,7 @@
 // The stable falling ranking of a list of keys, by merging: runs of one key, of two, of four, and so on, so that k keys take about k log k
 // comparisons.
+#![tactic(auto)]
+
 ghost use Rattle.std.specs.Prelude.{◌≡◌, ◌+◌, ◌-◌, ◌≤◌, ◌<◌, length, get_or};
 ghost use Rattle.std.proofs.Math.Seq.{slice};
 ghost use Rattle.std.specs.Float.{nan};
@@ -12,7 +14,7 @@ ghost use Rattle.ranking.specs.Merging.{Next};
 ghost use Rattle.ranking.specs.Runs.{place_in, ranked_run};
 
 // Where the next place stands, and what is left of the two runs after it.
-#[derive(Drop)]
+#[derive(Clone, Copy)]
 pub struct Taken {
     pub at: usize,
     pub i: usize,

@@ -1,5 +1,7 @@
 // The recursion coefficients of Holmes & Featherstone (2002), row by row along their storage. Each is one correctly rounded root, where rows are many by
 // way of a guess from a product of tabled roots: nothing is promised of the guesses, and the answer does not depend on them.
+#![tactic(auto)]
+
 ghost use Rattle.std.specs.Prelude.{◌≡◌, ℕ, ◌+◌, ◌-◌, ◌*◌, ◌≤◌, ◌<◌, length};
 ghost use Rattle.storage.specs.Filled.{Filled};
 ghost use Rattle.storage.specs.Triangle.{row_start, table_size, rows_from};

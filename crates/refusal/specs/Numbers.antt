@@ -69,13 +69,13 @@ behind (Refused e) k l = l
 
 -- a ground that holds refuses, before what comes after it is looked at
 unfoldable pub refuse : Bool → Refusal → Answer → Answer
-refuse ground e other = cond ground (Refused e) other
+refuse reason e other = cond reason (Refused e) other
 
-pub refuse_yes : {ground : Bool} (e : Refusal) (other : Answer) → ground ≡ true → refuse ground e other ≡ Refused e
+pub refuse_yes : {reason : Bool} (e : Refusal) (other : Answer) → reason ≡ true → refuse reason e other ≡ Refused e
 unfolding refuse
 refuse_yes e other h = rw h refl
 
-pub refuse_no : {ground : Bool} (e : Refusal) (other : Answer) → ground ≡ false → refuse ground e other ≡ other
+pub refuse_no : {reason : Bool} (e : Refusal) (other : Answer) → reason ≡ false → refuse reason e other ≡ other
 unfolding refuse
 refuse_no e other h = rw h refl
 
@@ -86,4 +86,4 @@ value_if (Refused e) x = NoValue e
 
 -- the same for a call that works out one number
 unfoldable pub refuse_value : Bool → Refusal → Number → Number
-refuse_value ground e other = cond ground (NoValue e) other
+refuse_value reason e other = cond reason (NoValue e) other

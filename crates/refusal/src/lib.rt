@@ -1,9 +1,11 @@
 // Why a call is refused, and what calls answer.
+#![tactic(auto)]
+
 ghost use Rattle.std.specs.Prelude.{◌≡◌};
 ghost use Rattle.refusal.specs.Numbers.{refusal_number, answer_number, value_number, value_after};
 
 // Why a call is refused, in the order of document 01's numbers, 1 to 9.
-#[derive(Drop)]
+#[derive(Clone, Copy)]
 pub enum Refusal {
     // a degree, an order of a rule or a matrix, or a count of rows or longitudes is too large
     Size,
@@ -26,14 +28,14 @@ pub enum Refusal {
 }
 
 // What a call answers that hands back nothing but its lists.
-#[derive(Drop)]
+#[derive(Clone, Copy)]
 pub enum Answer {
     Done,
     Refused(Refusal),
 }
 
 // What a call answers that works out one number.
-#[derive(Drop)]
+#[derive(Clone, Copy)]
 pub enum Number {
     Value(f64),
     Refused(Refusal),

@@ -1,4 +1,6 @@
 // The Slepian functions of a region of any shape, best concentrated first (Simons, Dahlen & Wieczorek 2006).
+#![tactic(auto)]
+
 mod functions;
 mod solve;
 
@@ -18,7 +20,7 @@ use linalg::Solution;
 use refusal::{Answer, Refusal};
 
 // How many functions there are, how many numbers c each has and all have, and how much of the working list is used.
-#[derive(Drop)]
+#[derive(Clone, Copy)]
 pub struct Sizes {
     pub functions: usize,
     pub table: usize,

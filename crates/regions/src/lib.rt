@@ -1,4 +1,6 @@
 // The concentration matrix of a region of any shape (Simons, Dahlen & Wieczorek 2006), from nodes in colatitude that the caller lends.
+#![tactic(auto)]
+
 mod nodes;
 mod sums;
 pub mod whole;

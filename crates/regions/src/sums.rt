@@ -63,7 +63,7 @@ fn add_row(
 }
 
 // A place of the basis: place a of degree l.
-#[derive(Drop)]
+#[derive(Clone, Copy)]
 pub struct Place {
     pub l: usize,
     pub a: usize,

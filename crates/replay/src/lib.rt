@@ -1,5 +1,7 @@
 // What the programs that replay the oracle's answers share: numbers from bit patterns, and lines that say how many answers are those due. What a
 // line says is made by the function that compares.
+#![tactic(auto)]
+
 ghost use Rattle.std.specs.Prelude.{◌≡◌, cond, ℕ, ◌+◌, ◌≤◌, length};
 ghost use Rattle.storage.specs.Filled.{Filled};
 ghost use Rattle.storage.specs.Store.{store};

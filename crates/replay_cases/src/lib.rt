@@ -1,4 +1,6 @@
 // What the programs that replay refusals share: the columns of a case, how much of a list a call has changed, and the line of a call.
+#![tactic(auto)]
+
 ghost use Rattle.std.specs.Prelude.{◌+◌, ◌≤◌, length};
 
 use coefficients::{Date, Model};
@@ -13,7 +15,7 @@ pub const MARK_WORD: u64 = 0x5a5a_1234_5a5a_9876;
 pub const MARK_BYTE: u8 = 0xa5;
 
 // What is seen of a call: the number of its refusal, 0 where there is none, and what it has changed in the lists that it was lent.
-#[derive(Drop)]
+#[derive(Clone, Copy)]
 pub struct Seen {
     pub number: u64,
     pub touched: u64,

@@ -1,5 +1,7 @@
 // Replays the oracle's answers for the crates synthesis (grids.rt), slepian and polar_cap (averages.rt): a line for each group, how many of our
 // answers have the oracle's bits.
+#![tactic(auto)]
+
 mod averages;
 mod grids;
 

@@ -1,6 +1,8 @@
 // Reads and writes model files that a writer of its own has made (files.rt), and compares every word and every byte: for each file its head, c and s as
 // they are read, the bytes that are written of them, and the bytes that are written of what was read. Each list has two places behind the answer, which
 // keep what they hold.
+#![tactic(auto)]
+
 mod files;
 
 ghost use Rattle.std.specs.Prelude.{◌≡◌, ◌+◌, ◌≤◌, length};

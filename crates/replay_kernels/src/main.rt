@@ -1,4 +1,6 @@
 // Replays the oracle's kernels (kernels.rt): a line for each list, how many of our numbers are those due.
+#![tactic(auto)]
+
 mod kernel_answers;
 mod kernels;
 

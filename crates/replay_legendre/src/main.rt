@@ -1,5 +1,7 @@
 // Replays the oracle's answers for the crates legendre and quadrature (answers.rt): a line for each group, how many of our answers have the
 // oracle's bits.
+#![tactic(auto)]
+
 mod answers;
 
 ghost use Rattle.std.specs.Prelude.{◌≡◌, ◌+◌, ◌≤◌, length};

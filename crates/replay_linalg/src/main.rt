@@ -1,5 +1,7 @@
 // Replays the oracle's answers for the crate linalg (solvers.rt): three lines for each matrix and call, how many of its values and of its vectors have
 // the oracle's bits, and whether the solver ended as the oracle's.
+#![tactic(auto)]
+
 mod solvers;
 
 ghost use Rattle.std.specs.Prelude.{◌+◌, ◌<◌, ◌≤◌, length};

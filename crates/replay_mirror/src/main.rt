@@ -1,5 +1,7 @@
 // Replays the oracle's tables at t and at -t by the entries for C (examples.rt), what the two mirrors make of other lists and tell of theirs (lists.rt), and
 // what they refuse (refusals.rt), against answers.rt: a line for each group, how many answers are those due.
+#![tactic(auto)]
+
 mod answers;
 mod examples;
 mod lists;

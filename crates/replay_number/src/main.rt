@@ -1,4 +1,6 @@
 // Replays the oracle's answers for the crate number (answers.rt): a line for each group, how many of our answers have the oracle's bits.
+#![tactic(auto)]
+
 mod answers;
 
 ghost use Rattle.std.specs.Prelude.{◌+◌, ◌≤◌, length};

@@ -1,5 +1,7 @@
 // Replays the oracle's answers for the crates partials (points.rt) and analysis (models.rt): a line for each group, how many of our answers
 // have the oracle's bits.
+#![tactic(auto)]
+
 mod models;
 mod points;
 

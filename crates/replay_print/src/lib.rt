@@ -1,5 +1,7 @@
 // How the programs that replay answers print: each function hands a promised line of `replay` to standard output, and nothing else. Apart from `replay`,
 // since what is written is the io library's to promise.
+#![tactic(auto)]
+
 ghost use Rattle.std.specs.Prelude.{◌+◌, ◌≤◌, length};
 
 // Prints the line of numbers.

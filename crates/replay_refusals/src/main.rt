@@ -1,5 +1,7 @@
 // Replays what document 01's table of refusals says of the calls on models and tables (cases.rt): for each call a line, how many of its refusals, and of
 // the places that it changes in the lists lent to it, are those due; then a line for each head of a made model.
+#![tactic(auto)]
+
 mod cases;
 mod models;
 mod tables;

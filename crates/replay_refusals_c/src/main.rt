@@ -1,6 +1,8 @@
 // Replays what the C entries refuse by themselves (cases.rt): a number that is no functional's, a tide that is none, lists of fixed lengths; and which of
 // two wrong lists they refuse; of `legendre_grow` all that it refuses. For each entry a line, how many of its refusals, and of the places that it changes
 // in the lists lent to it, are those due.
+#![tactic(auto)]
+
 mod cases;
 mod entries;
 mod model_files;

@@ -1,5 +1,7 @@
 // Replays what document 01's table of refusals says of model files (cases.rt): for each call a line, how many of its refusals, and of the places that it
 // changes in the lists lent to it, are those due. The reader's cases are damaged copies of a file without a date and of one with a date.
+#![tactic(auto)]
+
 mod cases;
 
 ghost use Rattle.std.specs.Prelude.{◌*◌, ◌≤◌, ◌<◌, length};

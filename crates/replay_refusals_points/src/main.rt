@@ -1,5 +1,7 @@
 // Replays what document 01's table of refusals says of the calls on points (cases.rt): for each call a line, how many of its refusals, and of the places
 // that it changes in the lists lent to it, are those due.
+#![tactic(auto)]
+
 mod cases;
 mod points;
 

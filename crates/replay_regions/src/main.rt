@@ -1,4 +1,6 @@
 // Replays the oracle's regions (values.rt) against answers.rt: a line for each group, how many of our answers have the oracle's bits.
+#![tactic(auto)]
+
 mod answers;
 mod values;
 

@@ -1,4 +1,6 @@
 // Prints, for each of some model files, its name and what `variances` prints for it.
+#![tactic(auto)]
+
 fn print(name: &[u8], bytes: &[u8]) {
     io::write_all(1, name);
     let mut text = [0u8; 1756];

@@ -1,4 +1,6 @@
 // The gravitational potential of a field with its first and second partial derivatives at points.
+#![tactic(auto)]
+
 mod points;
 mod workspace;
 

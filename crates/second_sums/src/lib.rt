@@ -1,6 +1,8 @@
 // The sums over the degrees at one point for the second derivatives. The functions P are not stored, nor are their derivatives by latitude: each
 // degree goes once over its orders, with P two orders ahead, its first derivative one order ahead and its second one at hand. Of the recursion two rows
 // are kept, in one list of pairs: at index 2m the number of order m in the last row, at index 2m + 1 the one in the row before it.
+#![tactic(auto)]
+
 ghost use Rattle.std.specs.Prelude.{◌≡◌, ℕ, ◌+◌, ◌-◌, ◌*◌, ◌≤◌, ◌<◌, length, get_or};
 ghost use Rattle.std.specs.Float.{nan};
 ghost use Rattle.storage.specs.Elements.{from};
@@ -13,7 +15,7 @@ ghost use Rattle.second_sums.specs.Window.{up_to, derived_from};
 ghost use Rattle.second_sums.specs.Sums.{row_sums, with_row, SecondRoom, second_sums};
 
 // The sums of one degree over its orders: of P, and of its derivatives by latitude and longitude.
-#[derive(Drop)]
+#[derive(Clone, Copy)]
 pub struct SecondRow {
     pub v: f64,
     pub lat: f64,
@@ -24,7 +26,7 @@ pub struct SecondRow {
 }
 
 // The sums over the degrees so far, and the next power of radius / r.
-#[derive(Drop)]
+#[derive(Clone, Copy)]
 pub struct SecondSums {
     pub power: f64,
     pub v: f64,

@@ -1,4 +1,6 @@
 // Averages of a field over a basin, by the coefficients of the basin's kernel (Swenson & Wahr 2002).
+#![tactic(auto)]
+
 ghost use Rattle.std.specs.Prelude.{◌≡◌, ◌+◌, ◌≤◌, ◌<◌, min, length};
 ghost use Rattle.std.specs.Float.{binary64, nan};
 ghost use Rattle.refusal.specs.Numbers.{value_if};

@@ -62,10 +62,10 @@ entry_answer nmax list n m =
     refuse_value (ltb 2700 nmax) Size (refuse_value (not (eqb (length list) (table_size nmax))) Length (value_at list (place_of nmax n m)))
 
 -- ---- one check: it stops the call, or what comes after it answers
-pub stop : {ground : Bool} (e : Refusal) (other : Answer) → ground ≡ true → Refused e ≡ refuse ground e other
+pub stop : {reason : Bool} (e : Refusal) (other : Answer) → reason ≡ true → Refused e ≡ refuse reason e other
 stop e other h = sym (refuse_yes e other h)
 
-pub pass : {ground : Bool} (e : Refusal) {other x : Answer} → ground ≡ false → x ≡ other → x ≡ refuse ground e other
+pub pass : {reason : Bool} (e : Refusal) {other x : Answer} → reason ≡ false → x ≡ other → x ≡ refuse reason e other
 pass e {other} h g = g ∙ sym (refuse_no e other h)
 
 pub different : {a b : ℕ} → (a ≡ b → ⊥) → not (eqb a b) ≡ true
@@ -75,7 +75,7 @@ pub equal : {a b : ℕ} → a ≡ b → not (eqb a b) ≡ false
 equal {a} {b} h = ap not (eq-eqb a b h)
 
 -- ---- one law for each way through the checks
-pub past : (ground : Bool) (e : Refusal) (a : Answer) → Done ≡ refuse ground e a → T (not ground) × (Done ≡ a)
+pub past : (reason : Bool) (e : Refusal) (a : Answer) → Done ≡ refuse reason e a → T (not reason) × (Done ≡ a)
 unfolding refuse
 past true e a h = absurd (let z : ◌≡◌ {A = ℕ} 0 1 = cc in omega arith)
 past false e a h = (tt, h)

@@ -1,4 +1,6 @@
 // Triangular storage of a table over degree n and order m: row n holds the orders 0 to n, and the rows follow each other.
+#![tactic(auto)]
+
 ghost use Rattle.std.specs.Prelude.{◌≡◌, ℕ, ◌+◌, ◌≤◌, min, length};
 ghost use Rattle.storage.specs.Answers.{size_of, place_of};
 ghost use Rattle.storage.specs.Elements.{zero_at};
@@ -12,7 +14,7 @@ use refusal::{Answer, Number, Refusal};
 pub const MAX_DEGREE: usize = 2700;
 
 // The index of an entry, or why there is none.
-#[derive(Drop)]
+#[derive(Clone, Copy)]
 pub enum Index {
     At(usize),
     Refused(Refusal),
@@ -71,7 +73,7 @@ pub fn entry(nmax: usize, table: &[f64], n: usize, m: usize) -> Number
 }
 
 // Eight numbers that are worked out side by side.
-#[derive(Drop)]
+#[derive(Clone, Copy)]
 pub struct Eight {
     pub a: f64,
     pub b: f64,

@@ -1,4 +1,6 @@
 // Values of a field on a grid of latitudes and longitudes.
+#![tactic(auto)]
+
 mod rows;
 mod workspace;
 

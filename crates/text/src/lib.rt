@@ -1,4 +1,6 @@
 // Text that is stored piece by piece: bytes, and decimal digits. What the program `variances` and the replays print is made of it.
+#![tactic(auto)]
+
 ghost use Rattle.std.specs.Prelude.{◌≡◌, ◌+◌, ◌≤◌, length};
 ghost use Rattle.storage.specs.Store.{store};
 ghost use Rattle.text.specs.Digits.{decimal_digits};

@@ -1,4 +1,6 @@
 // What the program `variances` prints for the bytes that it has read: the degree variances of a model file of at most degree 86.
+#![tactic(auto)]
+
 ghost use Rattle.std.specs.Prelude.{◌≡◌, ◌+◌, ◌≤◌, ◌<◌, length};
 ghost use Rattle.storage.specs.Store.{store};
 ghost use Rattle.storage.specs.Triangle.{table_size};

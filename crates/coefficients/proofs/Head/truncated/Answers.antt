@@ -1,0 +1,57 @@
+-- `Head::truncated` meets its contract: past the checks both tables are copied up to the lower of the two degrees. Assumes nothing.
+use Rattle.storage.specs.Triangle.{row_start_monotone}
+use native.Mathlib.Nat.{min-le_right}
+use Rattle.storage.specs.Filled.{filled_to}
+use Rattle.coefficients.specs.Cuts.{cut_promise}
+use Rattle.coefficients.specs.Model.{model_refused, model_made}
+use Rattle.storage.specs.Answers.{size_is}
+use Rattle.storage.specs.Checks.{outputs_passed}
+use borrow.Author.Rules.{rules}
+use native.Mathlib.Omega.{arith}
+use mathlib.Core.Path.{refl, sym, ◌∙◌}
+use Prim.Native.Nat.{◌+◌}
+use Rattle.coefficients.proofs.Head.truncated.Goals as goal
+
+pub copy-requires : goal.copy-requires
+copy-requires c =
+    let a = c.args in
+    let i = min-le_right a.cut a.self.nmax in
+    let m = c.smaller-top.ensures in
+    let ok = sym c.in-Done.is ∙ c.outputs_check.ensures in
+    let o = outputs_passed _ _ _ _ _ _ ok in
+    let h = row_start_monotone (c.smaller-top.result + 1) (a.self.nmax + 1) (omega arith) in
+    let z = c.table_size-size.ensures ∙ size_is _ (omega arith) in
+    record { fact_1 = omega arith; fact_2 = omega arith }
+
+pub copy-requires-in-Done : goal.copy-requires-in-Done
+copy-requires-in-Done c =
+    let a = c.args in
+    let i = min-le_right a.cut a.self.nmax in
+    let m = c.smaller-top.ensures in
+    let ok = sym c.in-Done.is ∙ c.outputs_check.ensures in
+    let o = outputs_passed _ _ _ _ _ _ ok in
+    let h = row_start_monotone (c.smaller-top.result + 1) (a.self.nmax + 1) (omega arith) in
+    let z = c.table_size-size.ensures ∙ size_is _ (omega arith) in
+    record { fact_1 = omega arith; fact_2 = omega arith }
+
+pub returns-in-Refused : goal.returns-in-Refused
+returns-in-Refused c =
+    let a = c.args in
+    let refused = sym c.in-Refused.is ∙ c.outputs_check.ensures in
+    cut_promise a.self a.c.now a.s.now a.cut a.outc.now a.outs.now (
+    record { answers = rw (← c.smaller-top.ensures) (model_refused _ _ refused); leaves_c = refl; leaves_s = refl })
+
+pub returns-in-Done : goal.returns-in-Done
+returns-in-Done c =
+    let a = c.args in
+    let i = min-le_right a.cut a.self.nmax in
+    let m = c.smaller-top.ensures in
+    let ok = sym c.in-Done.is ∙ c.outputs_check.ensures in
+    let o = outputs_passed _ _ _ _ _ _ ok in
+    let z = c.table_size-size.ensures ∙ size_is _ (omega arith) in
+    cut_promise a.self a.c.now a.s.now a.cut a.outc.now a.outs.now (
+    record {
+      answers = rw (← m) (model_made _ ok);
+      leaves_c = rw (← m) (filled_to c.copy.ensures z).is;
+      leaves_s = rw (← m) (filled_to c.copy-in-Done.ensures z).is;
+    })

@@ -1,0 +1,17 @@
+-- `identity_row` meets its contract: j numbers of the row are written. Assumes nothing.
+use borrow.Author.Rules.{rules}
+use native.Mathlib.Omega.{arith}
+use mathlib.Core.Path.{refl}
+use Prim.Native.Nat.{◌-◌, ◌≤◌}
+use Rattle.storage.specs.Filled.{Filled, filled_none, filled_more, filled_to}
+use Rattle.matrix.specs.Matrix.{kronecker}
+use Rattle.matrix.proofs.identity_row.Goals as goal
+
+pub loop-j-init : goal.loop-j-init
+loop-j-init c = (omega arith, filled_none)
+
+pub loop-j-preserved : goal.loop-j-preserved
+loop-j-preserved c = (omega arith, filled_more c.loop-j.invariant.1 refl c.kronecker.ensures)
+
+pub returns : goal.returns
+returns c = filled_to c.loop-j.invariant.1 (omega arith)
