@@ -18,7 +18,7 @@ TRIVIAL = re.compile(r"^(omega arith|search rules|omega \(arith\))$")
 
 
 def plain(s):
-    return s.replace("_", "-").replace("overflow-", "")
+    return re.sub("_lem$", "", s).replace("_", "-").replace("overflow-", "")
 
 
 def signatures(root):
@@ -149,6 +149,40 @@ class Function:
             got = later[0][1] if later else None
         return got
 
+    def inline(self, spec, given):
+        """The goals that the last step answers by a term of its own, with that term: by their place between those that have a name."""
+        m = re.search(r"\(tie\.spec\b(.*)\)\s*$", spec, re.S)
+        if not m:
+            return
+        args, s, i = [], m.group(1), 0
+        while i < len(s):
+            if s[i].isspace():
+                i += 1
+                continue
+            j, depth = i, 0
+            while j < len(s) and (depth or not s[j].isspace()):
+                depth += s[j] == "("
+                depth -= s[j] == ")"
+                j += 1
+            args.append(" ".join(s[i:j].split()))
+            i = j
+        args = [a for a in args if not re.match(r"(invariant|decreases)", a)]
+        order = [n for o, n in self.d["needs"] if n != "never-requires"]
+        known = {k: order.index(given[a][0]) for k, a in enumerate(args) if given.get(a) and given[a][0] in order}
+        where = {n: self.real(p) for (o, n), (p, _) in zip(self.d["needs"], self.d["asked_at"])}
+        known[-1] = -1
+        known[len(args)] = len(order)
+        for k, a in enumerate(args):
+            m = re.match(r"\(λ c(?: κs)?\. (.*)\)$", a, re.S)
+            if not m or TRIVIAL.match(m.group(1)) or k in known:
+                continue
+            lo, hi = max(i for i in known if i < k), min(i for i in known if i > k)
+            if hi - lo == known[hi] - known[lo]:
+                goal = order[known[lo] + k - lo]
+                yield (goal, where[goal]), m.group(1)
+            else:
+                self.left.append(f"an answer in the last step: {a}")
+
     def resolve(self, place, parts):
         cur, i = place, 0
         # how many places lie between differs from the older check's: a step is found by its name
@@ -182,13 +216,15 @@ class Function:
         if rest and rest[0] == "ensures":
             sig = lookup(self.found, self.callee.get(at))
             rest = ["ensures"] + by_name(rest[1:], sig and sig["ensures"])
-        if rest and rest[0] == "new" and len(rest) > 1 and rest[1].isdigit():
+        if rest and rest[0] == "new" and len(rest) > 1 and rest[1] in "01":
             params = self.d["params"].get(self.callee.get(at)) or []
-            k = int(rest[1])
-            if k < len(params):
-                rest = ["new", params[k]] + rest[2:]
+            k = 0
+            while k + 1 < len(rest) and rest[k + 1] == "1":
+                k += 1
+            if k < len(params) and rest[k + 1 : k + 2] == ["0"]:
+                rest = ["new", params[k]] + rest[k + 2 :]
             else:
-                self.left.append("new." + rest[1])
+                self.left.append(".".join(rest))
         return [new] + rest
 
     def paths(self, body, place):
@@ -269,6 +305,9 @@ class Function:
         if not names or len(names) < 2:
             return body
         i = tuple_at_end(body)
+        last = re.search(r"(?:^|\n\s*| in )(omega (?:arith|\([^\n]*\)))\s*$", body)
+        if i is None and last:
+            return body[: last.start(1)] + "record { " + "; ".join(f"{n} = {last.group(1)}" for n in names) + " }"
         if i is None:
             self.left.append(f"clauses of {goal}")
             return body
@@ -341,7 +380,7 @@ def parts_of(chunk):
 
 def turn(fn, folder):
     text = open(folder + "/Proof.antt", encoding="utf-8").read()
-    head, uses, helpers, inv, ans = [], [], [], [], []
+    head, uses, helpers, inv, ans, given, spec = [], [], [], [], [], {}, ""
     for chunk in chunks(text):
         lines = chunk.split("\n")
         if any(l.startswith("use ") for l in lines):
@@ -364,6 +403,7 @@ def turn(fn, folder):
         m = re.match(r"tie\.Need-(\S+)", kind)
         if m:
             got = fn.goal(plain(m.group(1)))
+            given[name] = got
             if got is None:
                 if not plain(m.group(1)).startswith("same-length"):
                     fn.left.append(f"no goal for {m.group(1)}")
@@ -383,6 +423,7 @@ def turn(fn, folder):
             ans.append(f"{comment}pub {goal} : goal.{goal}\n{unfold}{goal} c ={' ' if body[:1].strip() else chr(10)}{body}")
             continue
         if "statement" in kind:
+            spec = clauses
             continue
         m = re.match(r"\((\S+) : tie\.([^\s.()]+)\) → ", kind)
         at = m and re.match(re.escape(name) + r"\s+" + re.escape(m.group(1)) + r"\s+=\s?", clauses)
@@ -392,6 +433,13 @@ def turn(fn, folder):
         if "tie." in chunk:
             fn.left.append(f"a lemma over a record: {name}")
         helpers.append(chunk)
+    for got, text in fn.inline(spec, given):
+        goal, place = got
+        if goal.startswith("shape_of-") or any(a.startswith(f"pub {goal} :") for a in ans):
+            continue
+        body = fn.record(fn.paths(text, place), goal)
+        if body is not None and not TRIVIAL.match(body.strip()):
+            ans.append(f"pub {goal} : goal.{goal}\n{goal} c = {body}")
     uses = [u for u in uses if ".Statement.{" not in u and not u.endswith("Tie as tie")]
     in_inv = []
     for h in helpers:

@@ -11,11 +11,13 @@ by_fours-first-requires c = record { nmax_bound_1 = omega arith; nmax_bound_2 = 
 
 pub one_by_one-requires : goal.one_by_one-requires
 one_by_one-requires c =
-    let (few, x) = c.by_fours-first.ensures in
+    let few = c.by_fours-first.ensures.fact_1 in
+    let x = c.by_fours-first.ensures.fact_2 in
     let long = x.long in
     record { nmax_bound_1 = omega arith; nmax_bound_2 = omega arith; nmax_bound_3 = omega arith; stride_value_1 = refl; stride_value_2 = omega arith; stride_value_3 = few; filled = filled_self x }
 
 pub returns : goal.returns
 returns c =
-    let (few, x) = c.by_fours-first.ensures in
+    let few = c.by_fours-first.ensures.fact_1 in
+    let x = c.by_fours-first.ensures.fact_2 in
     filled_again x c.one_by_one.ensures (mul-le-mul_right 2 few)

@@ -1,0 +1,26 @@
+-- `write_date` meets its contract. Assumes nothing.
+use Rattle.days.specs.Days.{pattern_of}
+use mir.ValLaws.{to_z-of_z}
+use mir.Syntax.{w32}
+use Rattle.model_file.proofs.Stores.{no_date, stated_date}
+use Rattle.model_file.specs.Format.{head_size}
+use native.Mathlib.Omega.{arith}
+use mathlib.Core.Path.{ap, ◌∙◌}
+use borrow.Author.Rules.{rules}
+use Rattle.model_file.proofs.write_date.Goals as goal
+
+pub write_pattern-requires : goal.write_pattern-requires
+write_pattern-requires c = omega (arith, ap head_size c.in-Days.is)
+
+pub returns-in-None : goal.returns-in-None
+returns-in-None c = no_date c.args.out.now c.args.date c.in-None.is
+
+pub returns-in-Days : goal.returns-in-Days
+returns-in-Days c =
+    let a = c.args in
+    let write-pattern = c.write_pattern in
+    let date = c.date-1 in
+    let days-pattern = c.days_pattern in
+    let known-told = c.known_told-1 in
+    stated_date a.out.now write-pattern.new.out a.date c.in-Days.days days-pattern.result c.in-Days.is
+    (days-pattern.ensures ∙ ap pattern_of (to_z-of_z w32 c.in-Days.days (record { sfits = known-told.given.0.1 }))) write-pattern.ensures
