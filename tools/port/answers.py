@@ -36,7 +36,7 @@ def signatures(root):
                 kind = m.group(1) + "::"
             if line.startswith("}"):
                 kind = ""
-            m = re.match(r"\s*(?:pub |unsafe |const |extern \"C\" )*fn (\w+)", line)
+            m = re.match(r"\s*(?:pub(?:\(\w+\))? |unsafe |const |extern \"C\" )*fn (\w+)", line)
             if m:
                 key = f"{crate}::{mod}{kind}{m.group(1)}"
                 found[key] = {"requires": [], "ensures": []}
