@@ -216,13 +216,13 @@ class Function:
         if rest and rest[0] == "ensures":
             sig = lookup(self.found, self.callee.get(at))
             rest = ["ensures"] + by_name(rest[1:], sig and sig["ensures"])
-        if rest and rest[0] == "new" and len(rest) > 1 and rest[1] in "01":
+        if rest and rest[0] in ("new", "auto") and len(rest) > 1 and rest[1] in "01":
             params = self.d["params"].get(self.callee.get(at)) or []
             k = 0
             while k + 1 < len(rest) and rest[k + 1] == "1":
                 k += 1
             if k < len(params) and rest[k + 1 : k + 2] == ["0"]:
-                rest = ["new", params[k]] + rest[k + 2 :]
+                rest = [rest[0], params[k]] + rest[k + 2 :]
             else:
                 self.left.append(".".join(rest))
         return [new] + rest
@@ -292,6 +292,10 @@ class Function:
         body = TOKEN.sub(one, body)
         for mark, what in marks:
             body = body.replace(mark, what)
+        # a step that only the check names has gone into the arm above it
+        for m in list(re.finditer(r"\s*let (\S+) = c\.[^\s.]+-\d+ in(?=\s)", body)):
+            if not re.search(r"(?<![\w.'-])" + re.escape(m.group(1)) + r"(?![\w'-])", body.replace(m.group(0), "", 1)):
+                body = body.replace(m.group(0), "", 1)
         return body
 
     def several(self, goal):
