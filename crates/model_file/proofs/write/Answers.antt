@@ -45,7 +45,7 @@ pub write_head-requires : goal.write_head-requires
 write_head-requires c = (omega (arith, c.head_size-start.ensures), omega arith)
 
 pub write_body-requires : goal.write_body-requires
-write_body-requires c = (omega arith, omega (arith, c.write_head.auto.0))
+write_body-requires c = (omega arith, omega (arith, c.write_head.auto.out))
 
 pub returns : goal.returns
 returns c =

@@ -20,7 +20,7 @@ loop-k-preserved c =
     let a = c.args in (
       (omega arith),
       (omega arith),
-      write-pair.auto.0 ∙ c.loop-k.invariant.2,
+      write-pair.auto.out ∙ c.loop-k.invariant.2,
       records_turn a.c.now a.s.now c.loop-k.out write-pair.new.out c.loop-k.k c.loop-k.at (omega arith) (omega arith)
           write-pair.ensures ∙ c.loop-k.invariant.3,
     )

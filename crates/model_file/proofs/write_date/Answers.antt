@@ -2,6 +2,7 @@
 use Rattle.days.specs.Days.{pattern_of}
 use mir.ValLaws.{to_z-of_z}
 use mir.Syntax.{w32}
+use mir.Val.{SFits}
 use Rattle.model_file.proofs.Stores.{no_date, stated_date}
 use Rattle.model_file.specs.Format.{head_size}
 use native.Mathlib.Omega.{arith}
@@ -19,8 +20,7 @@ pub returns-in-Days : goal.returns-in-Days
 returns-in-Days c =
     let a = c.args in
     let write-pattern = c.write_pattern in
-    let date = c.date-1 in
     let days-pattern = c.days_pattern in
-    let known-told = c.known_told-1 in
+    let f : SFits w32 c.in-Days.days = search rules in
     stated_date a.out.now write-pattern.new.out a.date c.in-Days.days days-pattern.result c.in-Days.is
-    (days-pattern.ensures ∙ ap pattern_of (to_z-of_z w32 c.in-Days.days (record { sfits = known-told.given.0.1 }))) write-pattern.ensures
+    (days-pattern.ensures ∙ ap pattern_of (to_z-of_z w32 c.in-Days.days f)) write-pattern.ensures

@@ -17,28 +17,28 @@ pub write_word-requires-2 : goal.write_word-requires-2
 write_word-requires-2 c =
     let a = c.args in
     let write_word = c.write_word in
-    omega (arith, size_least a.head.date, simp length-set at write_word.auto.0)
+    omega (arith, size_least a.head.date, simp length-set at write_word.auto.out)
 
 pub bounds-out-17 : goal.bounds-out-17
 bounds-out-17 c =
     let a = c.args in
     let write-word2 = c.write_word-2 in
     let write_word = c.write_word in
-    omega (arith, size_least a.head.date, write-word2.auto.0, simp length-set at write_word.auto.0)
+    omega (arith, size_least a.head.date, write-word2.auto.out, simp length-set at write_word.auto.out)
 
 pub write_degree-requires : goal.write_degree-requires
 write_degree-requires c =
     let a = c.args in
     let write-word2 = c.write_word-2 in
     let write_word = c.write_word in
-    simp length-set (omega (arith, size_least a.head.date, write-word2.auto.0, simp length-set at write_word.auto.0))
+    simp length-set (omega (arith, size_least a.head.date, write-word2.auto.out, simp length-set at write_word.auto.out))
 
 pub write_date-requires : goal.write_date-requires
 write_date-requires c =
     let write-degree = c.write_degree in
     let write-word2 = c.write_word-2 in
     let write_word = c.write_word in
-    omega (arith, simp length-set at write-degree.auto.0, write-word2.auto.0, simp length-set at write_word.auto.0)
+    omega (arith, simp length-set at write-degree.auto.out, write-word2.auto.out, simp length-set at write_word.auto.out)
 
 pub returns : goal.returns
 returns c =

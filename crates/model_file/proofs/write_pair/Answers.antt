@@ -10,7 +10,7 @@ pub write_word-requires : goal.write_word-requires
 write_word-requires c = simp length-set (omega arith)
 
 pub write_word-requires-2 : goal.write_word-requires-2
-write_word-requires-2 c = omega (arith, simp length-set at c.write_word.auto.0)
+write_word-requires-2 c = omega (arith, simp length-set at c.write_word.auto.out)
 
 pub returns : goal.returns
 returns c =
