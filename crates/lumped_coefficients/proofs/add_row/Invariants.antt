@@ -1,0 +1,13 @@
+-- `add_row` meets its contract: the sums so far have the degree's numbers added. Assumes nothing.
+use native.Mathlib.Omega.{arith}
+use Prim.Native.Nat.{◌-◌, ◌≤◌}
+use lib.Ieee.{nan}
+use Rattle.storage.specs.Filled.{Filled, filled_none, filled_more, filled_to, filled_after}
+use Rattle.lumped_coefficients.specs.Orders.{added_row}
+use Rattle.lumped_coefficients.proofs.add_row.Given as goal
+
+abbrev pub invariant-loop-m : goal.invariant-loop-m
+invariant-loop-m l = (l.m ≤ l.count) × Filled 0 (added_row l.factor l.at l.p l.c l.initial.sums) l.m l.initial.sums l.sums
+
+abbrev pub decreases-loop-m : goal.decreases-loop-m
+decreases-loop-m l = l.count - l.m
