@@ -1,0 +1,6 @@
+-- `Partials::acceleration_neu` meets its contract: what is worked out is the definition. Assumes nothing.
+use mathlib.Core.Path.{refl}
+use Rattle.local.proofs.Partials.acceleration_neu.Goals as goal
+
+pub returns : goal.returns
+returns c = refl

@@ -1,0 +1,15 @@
+-- `sums::add_degrees` meets its contract: the degrees below n are added, and the last two rows of the recursion are at hand. Assumes nothing.
+use Rattle.point_sums.specs.Sums.{DegreesBelow, degrees_none, degrees_more, degrees_to}
+use Rattle.storage.specs.Triangle.{RowWithin, row_within}
+use native.Mathlib.Omega.{arith}
+use mathlib.Core.Path.{◌≡◌, refl, ap, ◌∙◌}
+use Prim.Native.Nat.{ℕ, ◌+◌, ◌-◌, ◌≤◌, ◌<◌}
+use lib.ListN.{length}
+use Rattle.point_sums.proofs.add_degrees.Given as goal
+
+abbrev pub invariant-loop-n : goal.invariant-loop-n
+invariant-loop-n l =     (l.n ≤ l.nmax + 1) × (length l.even ≡ length l.initial.even) × (length l.odd ≡ length l.initial.odd) × (length l.p ≡ length l.initial.p) × (length l.d ≡ length l.initial.d)
+    × DegreesBelow l.n l.at l.q l.t l.u l.k l.c l.s l.trig l.odd l.even l.sums
+
+abbrev pub decreases-loop-n : goal.decreases-loop-n
+decreases-loop-n l = l.nmax - l.n

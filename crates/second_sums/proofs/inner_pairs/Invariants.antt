@@ -1,0 +1,17 @@
+-- `inner_pairs` meets its contract: the pairs of the orders below m are stored, those above are as they were. Assumes nothing.
+use Rattle.second_sums.specs.Pairs.{next_pair, pair_more, pair_inner}
+use Rattle.recursion.specs.Recursion.{step}
+use Rattle.storage.specs.Rectangle.{by_rows}
+use Rattle.storage.specs.Filled.{Filled, filled_none, filled_to, filled_after}
+use lib.ListN.{get_or, length-set}
+use lib.Ieee.{Float, nan}
+use native.Mathlib.Omega.{arith}
+use mathlib.Core.Path.{refl, ap₂, ◌∙◌}
+use Prim.Native.Nat.{◌+◌, ◌-◌, ◌*◌, ◌≤◌}
+use Rattle.second_sums.proofs.inner_pairs.Given as goal
+
+abbrev pub invariant-loop-m : goal.invariant-loop-m
+invariant-loop-m l = (l.m ≤ l.last) × Filled 0 (by_rows (next_pair l.n l.at l.t l.pmm l.a l.b l.initial.rows) 2) (l.m * 2) l.initial.rows l.rows
+
+abbrev pub decreases-loop-m : goal.decreases-loop-m
+decreases-loop-m l = l.last - l.m
