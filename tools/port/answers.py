@@ -36,7 +36,7 @@ def signatures(root):
                 kind = m.group(1) + "::"
             if line.startswith("}"):
                 kind = ""
-            m = re.match(r"\s*(?:pub |unsafe |const |extern \"C\" )*fn (\w+)", line)
+            m = re.match(r"\s*(?:pub(?:\(\w+\))? |unsafe |const |extern \"C\" )*fn (\w+)", line)
             if m:
                 key = f"{crate}::{mod}{kind}{m.group(1)}"
                 found[key] = {"requires": [], "ensures": []}
@@ -230,6 +230,13 @@ class Function:
     def paths(self, body, place):
         aliases = {"c": place}
 
+        def apart(m):
+            names = [it for it in re.split(r"[(),\s]+", m.group(1)) if it]
+            k = len(names) - 1
+            return "".join(f"let {n} = {m.group(2)}" + ".1" * j + ("" if j == k else ".0") + " in " for j, n in enumerate(names))
+
+        body = re.sub(r"let (\([^=\n]*\)) = (\w+(?:\.[^\s(){};,]+)*\.ensures) in ?", apart, body)
+
         def alias(m):
             if m.group(2) not in aliases:
                 return m.group(0)
@@ -305,12 +312,18 @@ class Function:
         if not names or len(names) < 2:
             return body
         i = tuple_at_end(body)
-        last = re.search(r"(?:^|\n\s*| in )(omega (?:arith|\([^\n]*\)))\s*$", body)
+        last = re.search(r"(?:^\s*|\n\s*| in )(omega (?:arith|\([^\n]*\)))\s*$", body)
         if i is None and last:
             return body[: last.start(1)] + "record { " + "; ".join(f"{n} = {last.group(1)}" for n in names) + " }"
         if i is None:
-            self.left.append(f"clauses of {goal}")
-            return body
+            # a lemma whose type is a product
+            m = re.match(r"((?:\s*let [^\n]*? in(?=\n)|\s*let [^\n]*? in(?= (?!.* in\b)))*)\s*(.*)$", body.rstrip(), re.S)
+            lets, term = m.group(1), m.group(2)
+            if re.match(r"c\.[^\s()]+\.ensures$", term):
+                return body
+            k = len(names) - 1
+            rows = "; ".join(f"{n} = all" + ".1" * j + ("" if j == k else ".0") for j, n in enumerate(names))
+            return f"{lets}\n    let all = {term} in\n    record {{ {rows} }}"
         s = body.rstrip()
         items = flat(split_top(s[i + 1 : -1]), len(names))
         if items is None:
