@@ -137,7 +137,7 @@ pub fn write(
         orders.old orders.new }
     ensures filled_2 { Filled 0 (picked_number at (ranked_places (take n (drop at work.now))) work.now) n
         concentrations.old concentrations.new }
-    ensures filled_2 { Filled 0
+    ensures filled_3 { Filled 0
         (from 0 (joined (run_at lmax order.now starts.now work.now) (ranked_places (take n (drop at work.now)))) nan)
         (length (joined (run_at lmax order.now starts.now work.now) (ranked_places (take n (drop at work.now)))))
         vectors.old vectors.new }

@@ -113,10 +113,10 @@ functions_more L l p {at} {start} {k} {j} h r s ek ea es ej =
 
 -- ---- what the filled lists hold
 -- the functions, from a table that holds F
-pub by_place : (F : ℕ → ℕ → Float) (L : ℕ) {d p : List Float} → Filled 0 (along F) (table_size L) d p → table_size L ≤ length d → (i : ℕ) → i < basis_size L
+pub by_place_lem : (F : ℕ → ℕ → Float) (L : ℕ) {d p : List Float} → Filled 0 (along F) (table_size L) d p → table_size L ≤ length d → (i : ℕ) → i < basis_size L
     → by_place L p i ≡ F (basic_at L i).degree (basic_at L i).order
 unfolding by_place
-by_place F L {d} {p} r room i h =
+by_place_lem F L {d} {p} r room i h =
     let f = found L i h in
     let e = ap (basic_at L) f.place ∙ basic_at_lem L f.l f.r f.top f.inside in
     let m = order_within f.r f.l f.inside in

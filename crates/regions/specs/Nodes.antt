@@ -16,7 +16,7 @@ use Rattle.matrix.specs.Matrix.{cell, cell-within}
 use Rattle.region_nodes.specs.Basis.{basis_size}
 use Rattle.region_nodes.specs.Regions.{integrals, add_node, function_at, product_at, region_term, four_pi, lower_cell, region_cell}
 use Rattle.region_nodes.specs.Nodes.{by_place, product_in}
-use Rattle.region_nodes.specs.NodeLaws.{degree_within, by_place, product_in_lem, place-within}
+use Rattle.region_nodes.specs.NodeLaws.{degree_within, by_place_lem, product_in_lem, place-within}
 use Rattle.regions.specs.Sums.{place_in, added_cell, added-left, added_right}
 use Rattle.regions.specs.Mirror.{over_four_pi, mirrored, mirrored-left, mirrored_right}
 
@@ -157,7 +157,7 @@ module _ (L : ℕ) (weights lats : List Float) (marks : List ℕ) (s c : List Fl
       → Filled 0 (by_place L p') n f f' → n ≤ length f → (i : ℕ) → i < n → get_or f' i nan ≡ function_at L lats ν i
   unfolding function_at
   functions_are ν rp lp rf lf i h =
-      filled_in {j = i} nan rf h (sym (zero-add i)) (omega (arith, h, lf)) ∙ by_place (legendre_row lats ν) L rp lp i h
+      filled_in {j = i} nan rf h (sym (zero-add i)) (omega (arith, h, lf)) ∙ by_place_lem (legendre_row lats ν) L rp lp i h
 
   -- and its products
   abbrev integrals_of : ℕ → List Float → ℕ → Float

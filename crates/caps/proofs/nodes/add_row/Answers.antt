@@ -1,0 +1,17 @@
+-- `add_row` meets its contract: the numbers below j are added. Assumes nothing.
+use Rattle.caps.specs.Nodes.{added_cell, row_next}
+use Rattle.number.specs.Float64.{◌⊗◌}
+use Rattle.storage.specs.Filled.{Filled, filled_none, filled_more, filled_to}
+use native.Mathlib.Omega.{arith}
+use mathlib.Core.Path.{refl}
+use Prim.Native.Nat.{◌-◌, ◌≤◌}
+use Rattle.caps.proofs.nodes.add_row.Goals as goal
+
+pub loop-j-init : goal.loop-j-init
+loop-j-init c = (omega arith, filled_none)
+
+pub loop-j-preserved : goal.loop-j-preserved
+loop-j-preserved c = (omega arith, filled_more c.loop-j.invariant.1 refl (row_next _ _ _ _ _ c.loop-j.invariant.1))
+
+pub returns : goal.returns
+returns c = filled_to c.loop-j.invariant.1 (omega arith)

@@ -1,0 +1,20 @@
+-- `columns::add_multiple` meets its contract: the numbers below index i are written. Assumes nothing.
+use native.Mathlib.Omega.{arith}
+use Prim.Native.Nat.{◌-◌, ◌≤◌}
+use lib.Ieee.{nan}
+use Rattle.storage.specs.Filled.{Filled, filled_none, filled_more, filled_to, filled_after}
+use Rattle.householder.specs.Columns.{plus_multiple}
+use Rattle.householder.proofs.columns.add_multiple.Goals as goal
+
+pub loop-i-init : goal.loop-i-init
+loop-i-init c = (omega arith, filled_none)
+
+pub loop-i-preserved : goal.loop-i-preserved
+unfolding plus_multiple
+loop-i-preserved c =
+    let loop = c.loop-i in
+    let old = filled_after loop.i nan loop.invariant.1 (omega arith) in
+    (omega arith, filled_more loop.invariant.1 (omega arith) (cc))
+
+pub returns : goal.returns
+returns c = filled_to c.loop-i.invariant.1 (omega arith)
