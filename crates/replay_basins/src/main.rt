@@ -8,9 +8,12 @@ mod polygon_answers;
 mod refusals;
 mod told;
 
-fn main() {
-    replay_cases::control();
-    outlines::show_outlines();
-    refusals::show_refusals();
-    told::show_told();
+use std::io::Result;
+
+fn main(rt: HostRuntime) -> Result<()> {
+    let stdout = rt.stdout();
+    replay_cases::control(stdout)?;
+    outlines::show_outlines(stdout)?;
+    refusals::show_refusals(stdout)?;
+    told::show_told(stdout)
 }

@@ -7,12 +7,21 @@ use geopotential::basins::{geopotential_polygon_breaks, geopotential_polygon_int
 use number::bits_of_number;
 use replay_cases::MARK;
 use replay_print::{show, show_words};
+use std::io::{Result, Stdout};
 
 // What stands in the number that tells how many there are before a call.
 const MARK_COUNT: usize = 1234;
 
 // What a call handed on, whose ten words are due from index `at` on.
-fn show_answer(name: &[u8], number: u32, count: usize, out: &[f64; 8], due: &[u64], at: usize)
+fn show_answer(
+    stdout: Stdout,
+    name: &[u8],
+    number: u32,
+    count: usize,
+    out: &[f64; 8],
+    due: &[u64],
+    at: usize,
+) -> Result<()>
     requires { (length name.now ≤ 80) × (at + 10 ≤ length due.now) }
 {
     let words = [
@@ -27,11 +36,19 @@ fn show_answer(name: &[u8], number: u32, count: usize, out: &[f64; 8], due: &[u6
         bits_of_number(out[6]),
         bits_of_number(out[7]),
     ];
-    show_words(name, &words, due, at);
+    show_words(stdout, name, &words, due, at)
 }
 
 // The intervals at one colatitude of an outline of up to eight vertices.
-fn show_intervals(name: &[u8], vertices: usize, outline: &[f64], theta: f64, due: &[u64], at: usize)
+fn show_intervals(
+    stdout: Stdout,
+    name: &[u8],
+    vertices: usize,
+    outline: &[f64],
+    theta: f64,
+    due: &[u64],
+    at: usize,
+) -> Result<()>
     requires { (length name.now ≤ 80) × (at + 10 ≤ length due.now) }
 {
     let mut work = [MARK; 8];
@@ -40,11 +57,18 @@ fn show_intervals(name: &[u8], vertices: usize, outline: &[f64], theta: f64, due
     let number = geopotential_polygon_intervals(
         vertices, outline, theta, &mut work, &mut out, &mut count,
     );
-    show_answer(name, number, count, &out, due, at);
+    show_answer(stdout, name, number, count, &out, due, at)
 }
 
 // At each of some colatitudes.
-fn show_cuts(name: &[u8], vertices: usize, outline: &[f64], colatitudes: &[u64], due: &[u64])
+fn show_cuts(
+    stdout: Stdout,
+    name: &[u8],
+    vertices: usize,
+    outline: &[f64],
+    colatitudes: &[u64],
+    due: &[u64],
+) -> Result<()>
     requires fact_1 { length name.now ≤ 80 }
     requires fact_2 { 10 * length colatitudes.now ≤ length due.now }
     requires fact_3 { length colatitudes.now ≤ 8 }
@@ -52,195 +76,241 @@ fn show_cuts(name: &[u8], vertices: usize, outline: &[f64], colatitudes: &[u64],
     let mut i = 0;
     while i < colatitudes.len() {
         let theta = number::number_of_bits(colatitudes[i]);
-        show_intervals(name, vertices, outline, theta, due, 10 * i);
+        show_intervals(stdout, name, vertices, outline, theta, due, 10 * i)?;
         i = i + 1;
     }
+    Ok(())
 }
 
 // The breaks.
-fn show_breaks(name: &[u8], vertices: usize, outline: &[f64], due: &[u64; 10])
+fn show_breaks(
+    stdout: Stdout,
+    name: &[u8],
+    vertices: usize,
+    outline: &[f64],
+    due: &[u64; 10],
+) -> Result<()>
     requires { length name.now ≤ 80 }
 {
     let mut work = [MARK; 8];
     let mut out = [MARK; 8];
     let mut count = MARK_COUNT;
     let number = geopotential_polygon_breaks(vertices, outline, &mut work, &mut out, &mut count);
-    show_answer(name, number, count, &out, due, 0);
+    show_answer(stdout, name, number, count, &out, due, 0)
 }
 
-fn show_concave() {
+fn show_concave(stdout: Stdout) -> Result<()> {
     let mut outline = [0.0; 12];
     replay::load(&answers::CONCAVE, 0, &mut outline);
     show_cuts(
+        stdout,
         b"intervals, concave ",
         6,
         &outline,
         &answers::CONCAVE_COLATITUDES,
         &answers::CONCAVE_INTERVALS,
-    );
-    show_breaks(b"breaks, concave ", 6, &outline, &answers::CONCAVE_BREAKS);
+    )?;
+    show_breaks(
+        stdout,
+        b"breaks, concave ",
+        6,
+        &outline,
+        &answers::CONCAVE_BREAKS,
+    )
 }
 
 // One that crosses itself.
-fn show_star() {
+fn show_star(stdout: Stdout) -> Result<()> {
     let mut outline = [0.0; 10];
     replay::load(&answers::STAR, 0, &mut outline);
     show_cuts(
+        stdout,
         b"intervals, star ",
         5,
         &outline,
         &answers::STAR_COLATITUDES,
         &answers::STAR_INTERVALS,
-    );
-    show_breaks(b"breaks, star ", 5, &outline, &answers::STAR_BREAKS);
+    )?;
+    show_breaks(stdout, b"breaks, star ", 5, &outline, &answers::STAR_BREAKS)
 }
 
 // One whose vertices share colatitudes.
-fn show_rectangle() {
+fn show_rectangle(stdout: Stdout) -> Result<()> {
     let mut outline = [0.0; 8];
     replay::load(&answers::RECTANGLE, 0, &mut outline);
     show_cuts(
+        stdout,
         b"intervals, rectangle ",
         4,
         &outline,
         &answers::RECTANGLE_COLATITUDES,
         &answers::RECTANGLE_INTERVALS,
-    );
+    )?;
     show_breaks(
+        stdout,
         b"breaks, rectangle ",
         4,
         &outline,
         &answers::RECTANGLE_BREAKS,
-    );
+    )
 }
 
-fn show_infinite() {
+fn show_infinite(stdout: Stdout) -> Result<()> {
     let mut outline = [0.0; 4];
     replay::load(&answers::INFINITE, 0, &mut outline);
     show_cuts(
+        stdout,
         b"intervals, infinite longitude ",
         2,
         &outline,
         &answers::INFINITE_COLATITUDES,
         &answers::INFINITE_INTERVALS,
-    );
+    )?;
     show_breaks(
+        stdout,
         b"breaks, infinite longitude ",
         2,
         &outline,
         &answers::INFINITE_BREAKS,
-    );
+    )
 }
 
 // One with a longitude that is NaN.
-fn show_lost() {
+fn show_lost(stdout: Stdout) -> Result<()> {
     let mut outline = [0.0; 8];
     replay::load(&answers::LOST, 0, &mut outline);
     show_cuts(
+        stdout,
         b"intervals, NaN longitude ",
         4,
         &outline,
         &answers::LOST_COLATITUDES,
         &answers::LOST_INTERVALS,
-    );
+    )?;
     show_breaks(
+        stdout,
         b"breaks, NaN longitude ",
         4,
         &outline,
         &answers::LOST_BREAKS,
-    );
+    )
 }
 
 // Longitudes whose difference overflows.
-fn show_far() {
+fn show_far(stdout: Stdout) -> Result<()> {
     let mut outline = [0.0; 12];
     replay::load(&answers::FAR, 0, &mut outline);
     show_cuts(
+        stdout,
         b"intervals, far ",
         6,
         &outline,
         &answers::FAR_COLATITUDES,
         &answers::FAR_INTERVALS,
-    );
-    show_breaks(b"breaks, far ", 6, &outline, &answers::FAR_BREAKS);
+    )?;
+    show_breaks(stdout, b"breaks, far ", 6, &outline, &answers::FAR_BREAKS)
 }
 
 // Latitudes that are NaN or infinite.
-fn show_nowhere() {
+fn show_nowhere(stdout: Stdout) -> Result<()> {
     let mut outline = [0.0; 16];
     replay::load(&answers::NOWHERE, 0, &mut outline);
     show_cuts(
+        stdout,
         b"intervals, NaN latitude ",
         8,
         &outline,
         &answers::NOWHERE_COLATITUDES,
         &answers::NOWHERE_INTERVALS,
-    );
+    )?;
     show_breaks(
+        stdout,
         b"breaks, NaN latitude ",
         8,
         &outline,
         &answers::NOWHERE_BREAKS,
-    );
+    )
 }
 
 // Crossed at zeros of either sign.
-fn show_zeros() {
+fn show_zeros(stdout: Stdout) -> Result<()> {
     let mut outline = [0.0; 12];
     replay::load(&answers::ZEROS, 0, &mut outline);
     show_cuts(
+        stdout,
         b"intervals, zeros ",
         6,
         &outline,
         &answers::ZEROS_COLATITUDES,
         &answers::ZEROS_INTERVALS,
-    );
-    show_breaks(b"breaks, zeros ", 6, &outline, &answers::ZEROS_BREAKS);
+    )?;
+    show_breaks(
+        stdout,
+        b"breaks, zeros ",
+        6,
+        &outline,
+        &answers::ZEROS_BREAKS,
+    )
 }
 
 // At a pole: the product of two differences is rounded to a zero.
-fn show_pole() {
+fn show_pole(stdout: Stdout) -> Result<()> {
     let mut outline = [0.0; 6];
     replay::load(&answers::POLE, 0, &mut outline);
     show_cuts(
+        stdout,
         b"intervals, pole ",
         3,
         &outline,
         &answers::POLE_COLATITUDES,
         &answers::POLE_INTERVALS,
-    );
-    show_breaks(b"breaks, pole ", 3, &outline, &answers::POLE_BREAKS);
+    )?;
+    show_breaks(stdout, b"breaks, pole ", 3, &outline, &answers::POLE_BREAKS)
 }
 
 // One whose crossings show which comes first, product or quotient.
-fn show_quotient() {
+fn show_quotient(stdout: Stdout) -> Result<()> {
     let mut outline = [0.0; 6];
     replay::load(&answers::QUOTIENT, 0, &mut outline);
     show_cuts(
+        stdout,
         b"intervals, quotient ",
         3,
         &outline,
         &answers::QUOTIENT_COLATITUDES,
         &answers::QUOTIENT_INTERVALS,
-    );
-    show_breaks(b"breaks, quotient ", 3, &outline, &answers::QUOTIENT_BREAKS);
+    )?;
+    show_breaks(
+        stdout,
+        b"breaks, quotient ",
+        3,
+        &outline,
+        &answers::QUOTIENT_BREAKS,
+    )
 }
 
 // No vertices.
-fn show_empty() {
+fn show_empty(stdout: Stdout) -> Result<()> {
     let outline: [f64; 0] = [];
     show_cuts(
+        stdout,
         b"intervals, empty ",
         0,
         &outline,
         &answers::EMPTY_COLATITUDES,
         &answers::EMPTY_INTERVALS,
-    );
-    show_breaks(b"breaks, empty ", 0, &outline, &answers::EMPTY_BREAKS);
+    )?;
+    show_breaks(
+        stdout,
+        b"breaks, empty ",
+        0,
+        &outline,
+        &answers::EMPTY_BREAKS,
+    )
 }
 
 // More crossings than the short arrays have room for.
-fn show_long_intervals(outline: &[f64; 132]) {
+fn show_long_intervals(stdout: Stdout, outline: &[f64; 132]) -> Result<()> {
     let mut theta = [0.0; 1];
     let mut work = [MARK; 66];
     let mut out = [MARK; 68];
@@ -250,46 +320,61 @@ fn show_long_intervals(outline: &[f64; 132]) {
         66, outline, theta[0], &mut work, &mut out, &mut count,
     );
     show_words(
+        stdout,
         b"intervals, long, count ",
         &[number as u64, count as u64],
         &answers::LONG_INTERVALS,
         0,
-    );
-    show(b"intervals, long ", &out, &answers::LONG_INTERVALS, 2);
+    )?;
+    show(
+        stdout,
+        b"intervals, long ",
+        &out,
+        &answers::LONG_INTERVALS,
+        2,
+    )
 }
 
 // More vertices.
-fn show_long_breaks(outline: &[f64; 132]) {
+fn show_long_breaks(stdout: Stdout, outline: &[f64; 132]) -> Result<()> {
     let mut work = [MARK; 66];
     let mut out = [MARK; 68];
     let mut count = MARK_COUNT;
     let number = geopotential_polygon_breaks(66, outline, &mut work, &mut out, &mut count);
     show_words(
+        stdout,
         b"breaks, long, count ",
         &[number as u64, count as u64],
         &answers::LONG_BREAKS,
         0,
-    );
-    show(b"breaks, long ", &out, &answers::LONG_BREAKS, 2);
+    )?;
+    show(stdout, b"breaks, long ", &out, &answers::LONG_BREAKS, 2)
 }
 
-fn show_long() {
+fn show_long(stdout: Stdout) -> Result<()> {
     let mut outline = [0.0; 132];
     replay::load(&answers::LONG, 0, &mut outline);
-    show_long_intervals(&outline);
-    show_long_breaks(&outline);
+    show_long_intervals(stdout, &outline)?;
+    show_long_breaks(stdout, &outline)
 }
 
 // What a call with an output of one number handed on.
-fn show_three(name: &[u8], number: u32, count: usize, out: &[f64; 1], due: &[u64; 3])
+fn show_three(
+    stdout: Stdout,
+    name: &[u8],
+    number: u32,
+    count: usize,
+    out: &[f64; 1],
+    due: &[u64; 3],
+) -> Result<()>
     requires { length name.now ≤ 80 }
 {
     let words = [number as u64, count as u64, bits_of_number(out[0])];
-    show_words(name, &words, due, 0);
+    show_words(stdout, name, &words, due, 0)
 }
 
 // The most vertices, all of them one place.
-fn show_most() {
+fn show_most(stdout: Stdout) -> Result<()> {
     let outline = [0.0; 8192];
     let mut work = [MARK; 4096];
     let mut out = [MARK; 1];
@@ -298,18 +383,26 @@ fn show_most() {
         4096, &outline, 1.0, &mut work, &mut out, &mut count,
     );
     show_three(
+        stdout,
         b"intervals, 4096 ",
         number,
         count,
         &out,
         &answers::MOST_INTERVALS,
-    );
+    )?;
     let again = geopotential_polygon_breaks(4096, &outline, &mut work, &mut out, &mut count);
-    show_three(b"breaks, 4096 ", again, count, &out, &answers::MOST_BREAKS);
+    show_three(
+        stdout,
+        b"breaks, 4096 ",
+        again,
+        count,
+        &out,
+        &answers::MOST_BREAKS,
+    )
 }
 
 // One more.
-fn show_beyond() {
+fn show_beyond(stdout: Stdout) -> Result<()> {
     let outline = [0.0; 8194];
     let mut work = [MARK; 4097];
     let mut out = [MARK; 1];
@@ -317,24 +410,38 @@ fn show_beyond() {
     let number = geopotential_polygon_intervals(
         4097, &outline, 1.0, &mut work, &mut out, &mut count,
     );
-    show_three(b"intervals, 4097 ", number, count, &out, &answers::BEYOND);
+    show_three(
+        stdout,
+        b"intervals, 4097 ",
+        number,
+        count,
+        &out,
+        &answers::BEYOND,
+    )?;
     let again = geopotential_polygon_breaks(4097, &outline, &mut work, &mut out, &mut count);
-    show_three(b"breaks, 4097 ", again, count, &out, &answers::BEYOND);
+    show_three(
+        stdout,
+        b"breaks, 4097 ",
+        again,
+        count,
+        &out,
+        &answers::BEYOND,
+    )
 }
 
-pub fn show_outlines() {
-    show_concave();
-    show_star();
-    show_rectangle();
-    show_infinite();
-    show_lost();
-    show_far();
-    show_nowhere();
-    show_zeros();
-    show_pole();
-    show_quotient();
-    show_empty();
-    show_long();
-    show_most();
-    show_beyond();
+pub fn show_outlines(stdout: Stdout) -> Result<()> {
+    show_concave(stdout)?;
+    show_star(stdout)?;
+    show_rectangle(stdout)?;
+    show_infinite(stdout)?;
+    show_lost(stdout)?;
+    show_far(stdout)?;
+    show_nowhere(stdout)?;
+    show_zeros(stdout)?;
+    show_pole(stdout)?;
+    show_quotient(stdout)?;
+    show_empty(stdout)?;
+    show_long(stdout)?;
+    show_most(stdout)?;
+    show_beyond(stdout)
 }

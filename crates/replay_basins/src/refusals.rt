@@ -6,6 +6,7 @@ use geopotential::basins::{
     geopotential_basin_kernel, geopotential_polygon_breaks, geopotential_polygon_intervals,
 };
 use replay_cases::{MARK, Seen, joined, room, size, touched};
+use std::io::{Result, Stdout};
 
 // The vertices, and the lengths of the outline, of the working list and of the output.
 fn intervals(
@@ -154,31 +155,34 @@ fn run(entry: usize, cases: &[u64], out: &mut [u64])
     }
 }
 
-fn print(name: &[u8], entry: usize, cases: &[u64], due: &[u64])
+fn print(stdout: Stdout, name: &[u8], entry: usize, cases: &[u64], due: &[u64]) -> Result<()>
     requires { (length name.now ≤ 80) × ((length cases.now ≤ 720) × (length due.now ≤ 120)) }
 {
     let mut out = [0u64; 120];
     run(entry, cases, &mut out);
-    replay_cases::print_line(name, &out, due);
+    replay_cases::print_line(stdout, name, &out, due)
 }
 
-pub fn show_refusals() {
+pub fn show_refusals(stdout: Stdout) -> Result<()> {
     print(
+        stdout,
         b"polygon_intervals, refusals ",
         0,
         &cases::POLYGON_INTERVALS,
         &cases::POLYGON_INTERVALS_DUE,
-    );
+    )?;
     print(
+        stdout,
         b"polygon_breaks, refusals ",
         1,
         &cases::POLYGON_BREAKS,
         &cases::POLYGON_BREAKS_DUE,
-    );
+    )?;
     print(
+        stdout,
         b"basin_kernel, refusals ",
         2,
         &cases::BASIN_KERNEL,
         &cases::BASIN_KERNEL_DUE,
-    );
+    )
 }

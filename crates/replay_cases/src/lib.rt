@@ -6,6 +6,7 @@ ghost use Rattle.std.specs.Prelude.{◌+◌, ◌≤◌, length};
 use coefficients::{Date, Model};
 use functional::Functional;
 use refusal::{Answer, Number};
+use std::io::{Result, Stdout};
 
 // What stands in every place of a list that is lent to be written.
 pub const MARK: f64 = 1234.5;
@@ -202,16 +203,16 @@ pub fn head_words(a: Model) -> [u64; 5] {
 }
 
 // The line of a call's words, the first of `words`, and those due.
-pub fn print_line(name: &[u8], words: &[u64], due: &[u64])
+pub fn print_line(stdout: Stdout, name: &[u8], words: &[u64], due: &[u64]) -> Result<()>
     requires fact_1 { length name.now ≤ 80 }
     requires fact_2 { length due.now ≤ length words.now }
 {
     let k = due.len();
-    replay_print::show_words(name, &words[..k], due, 0);
+    replay_print::show_words(stdout, name, &words[..k], due, 0)
 }
 
 // The control lines of `replay_print`, and one by `print_line`: its second word is not the one due, and it must say "1 of 2".
-pub fn control() {
-    replay_print::control();
-    print_line(b"control of cases ", &[1, 2, 0], &[1, 3]);
+pub fn control(stdout: Stdout) -> Result<()> {
+    replay_print::control(stdout)?;
+    print_line(stdout, b"control of cases ", &[1, 2, 0], &[1, 3])
 }

@@ -11,6 +11,7 @@ use coefficients::{Date, Head, TideSystem};
 use functional::Functional;
 use refusal::{Answer, Number};
 use replay_print::{show, show_words};
+use std::io::{Result, Stdout};
 
 fn head_of(nmax: usize) -> Head {
     Head {
@@ -23,7 +24,13 @@ fn head_of(nmax: usize) -> Head {
 }
 
 // A grid of three rows and nine longitudes.
-fn show_grid(functional: Functional, cbits: &[u64; 10], sbits: &[u64; 10], words: &[u64; 27]) {
+fn show_grid(
+    stdout: Stdout,
+    functional: Functional,
+    cbits: &[u64; 10],
+    sbits: &[u64; 10],
+    words: &[u64; 27],
+) -> Result<()> {
     let mut c = [0.0; 10];
     let mut s = [0.0; 10];
     let mut love = [0.0; 4];
@@ -50,11 +57,12 @@ fn show_grid(functional: Functional, cbits: &[u64; 10], sbits: &[u64; 10], words
         &mut work,
         &mut out,
     ) {
-        Answer::Done => show(b"grid ", &out, words, 0),
+        Answer::Done => show(stdout, b"grid ", &out, words, 0)?,
         Answer::Refused(_) => {
-            io::write_all(1, b"grid refused\n");
+            replay_print::print(stdout, b"grid refused\n")?;
         }
     }
+    Ok(())
 }
 
 // Numbers by the formula that the oracle's have: exact, of either sign, at most 50/64 in size.
@@ -75,7 +83,7 @@ fn exact(k: usize) -> f64
 }
 
 // A grid of a field of degree 130 with three rows and two longitudes.
-fn show_large_grid() {
+fn show_large_grid(stdout: Stdout) -> Result<()> {
     let mut c = [0.0; 8646];
     let mut s = [0.0; 8646];
     let mut latitudes = [0.0; 6];
@@ -100,11 +108,18 @@ fn show_large_grid() {
         &mut work,
         &mut out,
     ) {
-        Answer::Done => show(b"grid of degree 130 ", &out, &grids::LARGE_GEOID_HEIGHT, 0),
+        Answer::Done => show(
+            stdout,
+            b"grid of degree 130 ",
+            &out,
+            &grids::LARGE_GEOID_HEIGHT,
+            0,
+        )?,
         Answer::Refused(_) => {
-            io::write_all(1, b"grid 130 refused\n");
+            replay_print::print(stdout, b"grid 130 refused\n")?;
         }
     }
+    Ok(())
 }
 
 // The bits of a functional's average; those of a signalling NaN, which no answer has, for a refusal.
@@ -136,12 +151,13 @@ fn average(
 
 // The averages of the six functionals.
 fn show_averages(
+    stdout: Stdout,
     cbits: &[u64; 10],
     sbits: &[u64; 10],
     kcbits: &[u64; 6],
     ksbits: &[u64; 6],
     words: &[u64; 6],
-) {
+) -> Result<()> {
     let mut c = [0.0; 10];
     let mut s = [0.0; 10];
     let mut kc = [0.0; 6];
@@ -158,22 +174,35 @@ fn show_averages(
         average(Functional::RadialGradient, &c, &s, &kc, &ks),
         average(Functional::WaterHeight, &c, &s, &kc, &ks),
     ];
-    show_words(b"basin_average ", &six, words, 0);
+    show_words(stdout, b"basin_average ", &six, words, 0)
 }
 
 // The functions of a cap: orders, concentrations, vectors.
-fn show_ranked(orders: &[f64], concentrations: &[f64], vectors: &[f64], words: &[u64])
+fn show_ranked(
+    stdout: Stdout,
+    orders: &[f64],
+    concentrations: &[f64],
+    vectors: &[f64],
+    words: &[u64],
+) -> Result<()>
     requires { length orders.now + length concentrations.now + length vectors.now ≤ length words.now }
 {
     let k = orders.len();
     let at = k + concentrations.len();
-    show(b"polar_cap orders ", orders, words, 0);
-    show(b"polar_cap concentrations ", concentrations, words, k);
-    show(b"polar_cap vectors ", vectors, words, at);
+    show(stdout, b"polar_cap orders ", orders, words, 0)?;
+    show(
+        stdout,
+        b"polar_cap concentrations ",
+        concentrations,
+        words,
+        k,
+    )?;
+    show(stdout, b"polar_cap vectors ", vectors, words, at)
 }
 
 // A cap to degree L; the answers are orders, concentrations, vectors, and apart from them how the solver ended for each order.
 fn show_cap(
+    stdout: Stdout,
     l: usize,
     cosine: u64,
     weights: &[f64],
@@ -185,7 +214,7 @@ fn show_cap(
     settled: &mut [f64],
     words: &[u64],
     ended: &[u64],
-)
+) -> Result<()>
     requires { (length orders.old + length concentrations.old + length vectors.old ≤ length words.now) × (length settled.old ≤ length ended.now) }
 {
     let x = number::number_of_bits(cosine);
@@ -201,17 +230,18 @@ fn show_cap(
         settled,
     ) {
         Answer::Done => {
-            show_ranked(orders, concentrations, vectors, words);
-            show(b"polar_cap settled and counts ", settled, ended, 0);
+            show_ranked(stdout, orders, concentrations, vectors, words)?;
+            show(stdout, b"polar_cap settled and counts ", settled, ended, 0)?;
         }
         Answer::Refused(_) => {
-            io::write_all(1, b"polar_cap refused\n");
+            replay_print::print(stdout, b"polar_cap refused\n")?;
         }
     }
+    Ok(())
 }
 
 // The cap to degree 0.
-fn show_cap_0() {
+fn show_cap_0(stdout: Stdout) -> Result<()> {
     let mut weights = [0.0; 1];
     let mut latitudes = [0.0; 2];
     replay::load(&averages::CAP_0_WEIGHTS, 0, &mut weights);
@@ -222,6 +252,7 @@ fn show_cap_0() {
     let mut vectors = [0.0; 1];
     let mut settled = [0.0; 2];
     show_cap(
+        stdout,
         0,
         averages::CAP_0_COSINE[0],
         &weights,
@@ -233,11 +264,11 @@ fn show_cap_0() {
         &mut settled,
         &averages::CAP_0,
         &averages::CAP_0_SETTLED,
-    );
+    )
 }
 
 // The cap to degree 1.
-fn show_cap_1() {
+fn show_cap_1(stdout: Stdout) -> Result<()> {
     let mut weights = [0.0; 2];
     let mut latitudes = [0.0; 4];
     replay::load(&averages::CAP_1_WEIGHTS, 0, &mut weights);
@@ -248,6 +279,7 @@ fn show_cap_1() {
     let mut vectors = [0.0; 5];
     let mut settled = [0.0; 4];
     show_cap(
+        stdout,
         1,
         averages::CAP_1_COSINE[0],
         &weights,
@@ -259,11 +291,11 @@ fn show_cap_1() {
         &mut settled,
         &averages::CAP_1,
         &averages::CAP_1_SETTLED,
-    );
+    )
 }
 
 // The cap to degree 2.
-fn show_cap_2() {
+fn show_cap_2(stdout: Stdout) -> Result<()> {
     let mut weights = [0.0; 3];
     let mut latitudes = [0.0; 6];
     replay::load(&averages::CAP_2_WEIGHTS, 0, &mut weights);
@@ -274,6 +306,7 @@ fn show_cap_2() {
     let mut vectors = [0.0; 14];
     let mut settled = [0.0; 6];
     show_cap(
+        stdout,
         2,
         averages::CAP_2_COSINE[0],
         &weights,
@@ -285,11 +318,11 @@ fn show_cap_2() {
         &mut settled,
         &averages::CAP_2,
         &averages::CAP_2_SETTLED,
-    );
+    )
 }
 
 // The cap to degree 6.
-fn show_cap_6() {
+fn show_cap_6(stdout: Stdout) -> Result<()> {
     let mut weights = [0.0; 7];
     let mut latitudes = [0.0; 14];
     replay::load(&averages::CAP_6_WEIGHTS, 0, &mut weights);
@@ -300,6 +333,7 @@ fn show_cap_6() {
     let mut vectors = [0.0; 140];
     let mut settled = [0.0; 14];
     show_cap(
+        stdout,
         6,
         averages::CAP_6_COSINE[0],
         &weights,
@@ -311,11 +345,11 @@ fn show_cap_6() {
         &mut settled,
         &averages::CAP_6,
         &averages::CAP_6_SETTLED,
-    );
+    )
 }
 
 // The cap to degree 18.
-fn show_cap_18() {
+fn show_cap_18(stdout: Stdout) -> Result<()> {
     let cosine = number::number_of_bits(averages::CAP_18_COSINE[0]);
     let mut weights = [0.0; 19];
     let mut latitudes = [0.0; 38];
@@ -338,78 +372,94 @@ fn show_cap_18() {
         &mut settled,
     ) {
         Answer::Done => {
-            show(b"polar_cap 18 orders ", &orders, &averages::CAP_18, 0);
             show(
+                stdout,
+                b"polar_cap 18 orders ",
+                &orders,
+                &averages::CAP_18,
+                0,
+            )?;
+            show(
+                stdout,
                 b"polar_cap 18 concentrations ",
                 &concentrations,
                 &averages::CAP_18,
                 190,
-            );
+            )?;
             show(
+                stdout,
                 b"polar_cap 18 settled and counts ",
                 &settled,
                 &averages::CAP_18_SETTLED,
                 0,
-            );
+            )?;
         }
         Answer::Refused(_) => {
-            io::write_all(1, b"polar_cap 18 refused\n");
+            replay_print::print(stdout, b"polar_cap 18 refused\n")?;
         }
     }
+    Ok(())
 }
 
-fn grids_of_3() {
+fn grids_of_3(stdout: Stdout) -> Result<()> {
     show_grid(
+        stdout,
         Functional::GeoidHeight,
         &grids::C,
         &grids::S,
         &grids::GEOID_HEIGHT,
-    );
+    )?;
     show_grid(
+        stdout,
         Functional::WaterHeight,
         &grids::C,
         &grids::S,
         &grids::WATER_HEIGHT,
-    );
+    )?;
     show_grid(
+        stdout,
         Functional::GeoidHeight,
         &grids::SPECIAL_C,
         &grids::SPECIAL_S,
         &grids::SPECIAL_GEOID_HEIGHT,
-    );
+    )?;
     show_grid(
+        stdout,
         Functional::WaterHeight,
         &grids::SPECIAL_C,
         &grids::SPECIAL_S,
         &grids::SPECIAL_WATER_HEIGHT,
-    );
+    )
 }
 
-fn both_averages() {
+fn both_averages(stdout: Stdout) -> Result<()> {
     show_averages(
+        stdout,
         &averages::C,
         &averages::S,
         &averages::KERNEL_C,
         &averages::KERNEL_S,
         &averages::AVERAGES,
-    );
+    )?;
     show_averages(
+        stdout,
         &averages::SPECIAL_C,
         &averages::SPECIAL_S,
         &averages::SPECIAL_KERNEL_C,
         &averages::SPECIAL_KERNEL_S,
         &averages::SPECIAL_AVERAGES,
-    );
+    )
 }
 
-fn main() {
-    replay_print::control();
-    grids_of_3();
-    show_large_grid();
-    both_averages();
-    show_cap_0();
-    show_cap_1();
-    show_cap_2();
-    show_cap_6();
-    show_cap_18();
+fn main(rt: HostRuntime) -> Result<()> {
+    let stdout = rt.stdout();
+    replay_print::control(stdout)?;
+    grids_of_3(stdout)?;
+    show_large_grid(stdout)?;
+    both_averages(stdout)?;
+    show_cap_0(stdout)?;
+    show_cap_1(stdout)?;
+    show_cap_2(stdout)?;
+    show_cap_6(stdout)?;
+    show_cap_18(stdout)
 }

@@ -10,6 +10,7 @@ ghost use Rattle.std.specs.Prelude.{◌≡◌, ◌+◌, ◌≤◌, length};
 use coefficients::TideSystem;
 use model_file::{FileHead, Reading};
 use refusal::Answer;
+use std::io::{Result, Stdout};
 
 // What stands in lists before a call.
 const WORD: u64 = 0x5a5a_1234_5a5a_9876;
@@ -62,16 +63,24 @@ fn head_of(words: &[u64; 5]) -> FileHead {
 }
 
 // The line of the first bytes of a list, as many as `file` has.
-fn print_bytes(name: &[u8], bytes: &[u8], file: &[u8])
+fn print_bytes(stdout: Stdout, name: &[u8], bytes: &[u8], file: &[u8]) -> Result<()>
     requires fact_1 { length name.now ≤ 80 }
     requires fact_2 { length file.now ≤ length bytes.now }
 {
     let k = file.len();
-    replay_print::show_bytes(name, &bytes[..k], file, 0);
+    replay_print::show_bytes(stdout, name, &bytes[..k], file, 0)
 }
 
 // The bytes that are written of a head and the first pairs of two lists.
-fn print_written(name: &[u8], head: FileHead, pairs: usize, c: &[u64], s: &[u64], file: &[u8])
+fn print_written(
+    stdout: Stdout,
+    name: &[u8],
+    head: FileHead,
+    pairs: usize,
+    c: &[u64],
+    s: &[u64],
+    file: &[u8],
+) -> Result<()>
     requires fact_1 { length name.now ≤ 80 }
     requires fact_2 { pairs ≤ length c.now }
     requires fact_3 { pairs ≤ length s.now }
@@ -80,30 +89,33 @@ fn print_written(name: &[u8], head: FileHead, pairs: usize, c: &[u64], s: &[u64]
     let mut out = [BYTE; 200];
     match model_file::write(head, &c[..pairs], &s[..pairs], &mut out) {
         Answer::Refused(_) => {
-            io::write_all(1, b"write refused\n");
+            replay_print::print(stdout, b"write refused\n")?;
         }
-        Answer::Done => print_bytes(name, &out, file),
+        Answer::Done => print_bytes(stdout, name, &out, file)?,
     }
+    Ok(())
 }
 
 // What was read of a file, and what is due.
 fn print_read(
+    stdout: Stdout,
     h: FileHead,
     cread: &[u64; 12],
     sread: &[u64; 12],
     head: &[u64; 5],
     c: &[u64],
     s: &[u64],
-)
+) -> Result<()>
     requires { (length c.now ≤ 12) × (length s.now ≤ 12) }
 {
-    replay_print::show_words(b"head ", &words_of(h), head, 0);
-    replay_cases::print_line(b"c ", cread, c);
-    replay_cases::print_line(b"s ", sread, s);
+    replay_print::show_words(stdout, b"head ", &words_of(h), head, 0)?;
+    replay_cases::print_line(stdout, b"c ", cread, c)?;
+    replay_cases::print_line(stdout, b"s ", sread, s)
 }
 
 // What is written of what the file holds, and of what was read.
 fn print_model(
+    stdout: Stdout,
     pairs: usize,
     h: FileHead,
     cread: &[u64; 12],
@@ -112,15 +124,22 @@ fn print_model(
     head: &[u64; 5],
     c: &[u64],
     s: &[u64],
-)
+) -> Result<()>
     requires { (pairs ≤ 10) × ((length file.now ≤ 200) × ((pairs ≤ length c.now) × (pairs ≤ length s.now))) }
 {
-    print_written(b"written ", head_of(head), pairs, c, s, file);
-    print_written(b"read and written ", h, pairs, cread, sread, file);
+    print_written(stdout, b"written ", head_of(head), pairs, c, s, file)?;
+    print_written(stdout, b"read and written ", h, pairs, cread, sread, file)
 }
 
 // A file of T pairs, with two bytes behind it in `file`, and two words behind the T in `c` and in `s`.
-fn print_file(pairs: usize, file: &[u8], head: &[u64; 5], c: &[u64], s: &[u64])
+fn print_file(
+    stdout: Stdout,
+    pairs: usize,
+    file: &[u8],
+    head: &[u64; 5],
+    c: &[u64],
+    s: &[u64],
+) -> Result<()>
     requires fact_1 { pairs ≤ 10 }
     requires fact_2 { 2 ≤ length file.now }
     requires fact_3 { length file.now ≤ 200 }
@@ -132,79 +151,157 @@ fn print_file(pairs: usize, file: &[u8], head: &[u64; 5], c: &[u64], s: &[u64])
     let mut sread = [WORD; 12];
     match model_file::read(&file[..bytes], &mut cread, &mut sread) {
         Reading::Refused(_) => {
-            io::write_all(1, b"read refused\n");
+            replay_print::print(stdout, b"read refused\n")?;
         }
         Reading::Model(h) => {
-            print_read(h, &cread, &sread, head, c, s);
-            print_model(pairs, h, &cread, &sread, file, head, c, s);
+            print_read(stdout, h, &cread, &sread, head, c, s)?;
+            print_model(stdout, pairs, h, &cread, &sread, file, head, c, s)?;
         }
     }
+    Ok(())
 }
 
-fn print_undated() {
-    print_file(1, &files::FILE_0, &files::HEAD_0, &files::C_0, &files::S_0);
-    print_file(3, &files::FILE_1, &files::HEAD_1, &files::C_1, &files::S_1);
-    print_file(6, &files::FILE_2, &files::HEAD_2, &files::C_2, &files::S_2);
-    print_file(10, &files::FILE_3, &files::HEAD_3, &files::C_3, &files::S_3);
-    print_file(1, &files::FILE_4, &files::HEAD_4, &files::C_4, &files::S_4);
-    print_file(3, &files::FILE_5, &files::HEAD_5, &files::C_5, &files::S_5);
-    print_file(1, &files::FILE_6, &files::HEAD_6, &files::C_6, &files::S_6);
-    print_file(6, &files::FILE_7, &files::HEAD_7, &files::C_7, &files::S_7);
-}
-
-fn print_small_dated() {
-    print_file(1, &files::FILE_8, &files::HEAD_8, &files::C_8, &files::S_8);
-    print_file(1, &files::FILE_9, &files::HEAD_9, &files::C_9, &files::S_9);
+fn print_undated(stdout: Stdout) -> Result<()> {
     print_file(
+        stdout,
+        1,
+        &files::FILE_0,
+        &files::HEAD_0,
+        &files::C_0,
+        &files::S_0,
+    )?;
+    print_file(
+        stdout,
+        3,
+        &files::FILE_1,
+        &files::HEAD_1,
+        &files::C_1,
+        &files::S_1,
+    )?;
+    print_file(
+        stdout,
+        6,
+        &files::FILE_2,
+        &files::HEAD_2,
+        &files::C_2,
+        &files::S_2,
+    )?;
+    print_file(
+        stdout,
+        10,
+        &files::FILE_3,
+        &files::HEAD_3,
+        &files::C_3,
+        &files::S_3,
+    )?;
+    print_file(
+        stdout,
+        1,
+        &files::FILE_4,
+        &files::HEAD_4,
+        &files::C_4,
+        &files::S_4,
+    )?;
+    print_file(
+        stdout,
+        3,
+        &files::FILE_5,
+        &files::HEAD_5,
+        &files::C_5,
+        &files::S_5,
+    )?;
+    print_file(
+        stdout,
+        1,
+        &files::FILE_6,
+        &files::HEAD_6,
+        &files::C_6,
+        &files::S_6,
+    )?;
+    print_file(
+        stdout,
+        6,
+        &files::FILE_7,
+        &files::HEAD_7,
+        &files::C_7,
+        &files::S_7,
+    )
+}
+
+fn print_small_dated(stdout: Stdout) -> Result<()> {
+    print_file(
+        stdout,
+        1,
+        &files::FILE_8,
+        &files::HEAD_8,
+        &files::C_8,
+        &files::S_8,
+    )?;
+    print_file(
+        stdout,
+        1,
+        &files::FILE_9,
+        &files::HEAD_9,
+        &files::C_9,
+        &files::S_9,
+    )?;
+    print_file(
+        stdout,
         1,
         &files::FILE_10,
         &files::HEAD_10,
         &files::C_10,
         &files::S_10,
-    );
+    )?;
     print_file(
+        stdout,
         1,
         &files::FILE_11,
         &files::HEAD_11,
         &files::C_11,
         &files::S_11,
-    );
+    )?;
     print_file(
+        stdout,
         1,
         &files::FILE_12,
         &files::HEAD_12,
         &files::C_12,
         &files::S_12,
-    );
+    )?;
     print_file(
+        stdout,
         1,
         &files::FILE_13,
         &files::HEAD_13,
         &files::C_13,
         &files::S_13,
-    );
+    )
 }
 
-fn print_larger_dated() {
+fn print_larger_dated(stdout: Stdout) -> Result<()> {
     print_file(
+        stdout,
         3,
         &files::FILE_14,
         &files::HEAD_14,
         &files::C_14,
         &files::S_14,
-    );
+    )?;
     print_file(
+        stdout,
         6,
         &files::FILE_15,
         &files::HEAD_15,
         &files::C_15,
         &files::S_15,
-    );
+    )
 }
 
-fn main() {
-    replay_cases::control();
-    print_undated();
-    print_small_dated();
-    print_larger_dated();
+fn main(rt: HostRuntime) -> Result<()> {
+    let stdout = rt.stdout();
+    replay_cases::control(stdout)?;
+    print_undated(stdout)?;
+    print_small_dated(stdout)?;
+    print_larger_dated(stdout)
 }

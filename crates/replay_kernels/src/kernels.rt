@@ -7,18 +7,20 @@ use geopotential::basins::geopotential_basin_kernel;
 use number::bits_of_number;
 use replay_cases::MARK;
 use replay_print::{show, show_words};
+use std::io::{Result, Stdout};
 
 // The front of a list, as many numbers as there are due.
-fn show_front(name: &[u8], list: &[f64], words: &[u64])
+fn show_front(stdout: Stdout, name: &[u8], list: &[f64], words: &[u64]) -> Result<()>
     requires fact_1 { length words.now ≤ length list.now }
     requires fact_2 { length name.now ≤ 80 }
 {
     let k = words.len();
-    show(name, &list[..k], words, 0);
+    show(stdout, name, &list[..k], words, 0)
 }
 
 // The kernel of a basin, of degree 12 at most; the lists for it have room for that degree.
 fn show_kernel(
+    stdout: Stdout,
     lmax: usize,
     weights: &[f64],
     latitudes: &[f64],
@@ -27,7 +29,7 @@ fn show_kernel(
     c: &[f64],
     cosines: &[u64],
     sines: &[u64],
-)
+) -> Result<()>
     requires { (length cosines.now ≤ 92) × (length sines.now ≤ 92) }
 {
     let mut work = [MARK; 273];
@@ -45,13 +47,13 @@ fn show_kernel(
         &mut kc,
         &mut ks,
     );
-    show_words(b"basin_kernel, refusal ", &[number as u64], &[0], 0);
-    show_front(b"basin_kernel, kc ", &kc, cosines);
-    show_front(b"basin_kernel, ks ", &ks, sines);
+    show_words(stdout, b"basin_kernel, refusal ", &[number as u64], &[0], 0)?;
+    show_front(stdout, b"basin_kernel, kc ", &kc, cosines)?;
+    show_front(stdout, b"basin_kernel, ks ", &ks, sines)
 }
 
 // Degree 0, of three nodes, one of them skipped.
-fn show_of_0() {
+fn show_of_0(stdout: Stdout) -> Result<()> {
     let mut weights = [0.0; 3];
     let mut latitudes = [0.0; 6];
     let mut s = [0.0; 3];
@@ -61,6 +63,7 @@ fn show_of_0() {
     replay::load(&answers::OF_0_S, 0, &mut s);
     replay::load(&answers::OF_0_C, 0, &mut c);
     show_kernel(
+        stdout,
         0,
         &weights,
         &latitudes,
@@ -69,11 +72,11 @@ fn show_of_0() {
         &c,
         &answers::OF_0_KC,
         &answers::OF_0_KS,
-    );
+    )
 }
 
 // Degree 1.
-fn show_of_1() {
+fn show_of_1(stdout: Stdout) -> Result<()> {
     let mut weights = [0.0; 3];
     let mut latitudes = [0.0; 6];
     let mut s = [0.0; 9];
@@ -83,6 +86,7 @@ fn show_of_1() {
     replay::load(&answers::OF_1_S, 0, &mut s);
     replay::load(&answers::OF_1_C, 0, &mut c);
     show_kernel(
+        stdout,
         1,
         &weights,
         &latitudes,
@@ -91,11 +95,11 @@ fn show_of_1() {
         &c,
         &answers::OF_1_KC,
         &answers::OF_1_KS,
-    );
+    )
 }
 
 // Degree 2.
-fn show_of_2() {
+fn show_of_2(stdout: Stdout) -> Result<()> {
     let mut weights = [0.0; 3];
     let mut latitudes = [0.0; 6];
     let mut s = [0.0; 15];
@@ -105,6 +109,7 @@ fn show_of_2() {
     replay::load(&answers::OF_2_S, 0, &mut s);
     replay::load(&answers::OF_2_C, 0, &mut c);
     show_kernel(
+        stdout,
         2,
         &weights,
         &latitudes,
@@ -113,11 +118,11 @@ fn show_of_2() {
         &c,
         &answers::OF_2_KC,
         &answers::OF_2_KS,
-    );
+    )
 }
 
 // Degree 3.
-fn show_of_3() {
+fn show_of_3(stdout: Stdout) -> Result<()> {
     let mut weights = [0.0; 3];
     let mut latitudes = [0.0; 6];
     let mut s = [0.0; 21];
@@ -127,6 +132,7 @@ fn show_of_3() {
     replay::load(&answers::OF_3_S, 0, &mut s);
     replay::load(&answers::OF_3_C, 0, &mut c);
     show_kernel(
+        stdout,
         3,
         &weights,
         &latitudes,
@@ -135,11 +141,11 @@ fn show_of_3() {
         &c,
         &answers::OF_3_KC,
         &answers::OF_3_KS,
-    );
+    )
 }
 
 // Degree 7.
-fn show_of_7() {
+fn show_of_7(stdout: Stdout) -> Result<()> {
     let mut weights = [0.0; 3];
     let mut latitudes = [0.0; 6];
     let mut s = [0.0; 45];
@@ -149,6 +155,7 @@ fn show_of_7() {
     replay::load(&answers::OF_7_S, 0, &mut s);
     replay::load(&answers::OF_7_C, 0, &mut c);
     show_kernel(
+        stdout,
         7,
         &weights,
         &latitudes,
@@ -157,11 +164,11 @@ fn show_of_7() {
         &c,
         &answers::OF_7_KC,
         &answers::OF_7_KS,
-    );
+    )
 }
 
 // Degree 12.
-fn show_of_12() {
+fn show_of_12(stdout: Stdout) -> Result<()> {
     let mut weights = [0.0; 3];
     let mut latitudes = [0.0; 6];
     let mut s = [0.0; 75];
@@ -171,6 +178,7 @@ fn show_of_12() {
     replay::load(&answers::OF_12_S, 0, &mut s);
     replay::load(&answers::OF_12_C, 0, &mut c);
     show_kernel(
+        stdout,
         12,
         &weights,
         &latitudes,
@@ -179,11 +187,11 @@ fn show_of_12() {
         &c,
         &answers::OF_12_KC,
         &answers::OF_12_KS,
-    );
+    )
 }
 
 // Sums that overflow before they are halved, products that vanish.
-fn show_strange() {
+fn show_strange(stdout: Stdout) -> Result<()> {
     let mut weights = [0.0; 3];
     let mut latitudes = [0.0; 6];
     let mut s = [0.0; 9];
@@ -193,6 +201,7 @@ fn show_strange() {
     replay::load(&answers::STRANGE_S, 0, &mut s);
     replay::load(&answers::STRANGE_C, 0, &mut c);
     show_kernel(
+        stdout,
         1,
         &weights,
         &latitudes,
@@ -201,11 +210,11 @@ fn show_strange() {
         &c,
         &answers::STRANGE_KC,
         &answers::STRANGE_KS,
-    );
+    )
 }
 
 // Products that overflow unless the sum is halved before them.
-fn show_large() {
+fn show_large(stdout: Stdout) -> Result<()> {
     let mut weights = [0.0; 3];
     let mut latitudes = [0.0; 6];
     let mut s = [0.0; 9];
@@ -215,6 +224,7 @@ fn show_large() {
     replay::load(&answers::LARGE_S, 0, &mut s);
     replay::load(&answers::LARGE_C, 0, &mut c);
     show_kernel(
+        stdout,
         1,
         &weights,
         &latitudes,
@@ -223,11 +233,11 @@ fn show_large() {
         &c,
         &answers::LARGE_KC,
         &answers::LARGE_KS,
-    );
+    )
 }
 
 // Numbers that are none, and an integral c at 0 that is not read.
-fn show_none() {
+fn show_none(stdout: Stdout) -> Result<()> {
     let mut weights = [0.0; 2];
     let mut latitudes = [0.0; 4];
     let mut s = [0.0; 10];
@@ -237,6 +247,7 @@ fn show_none() {
     replay::load(&answers::NONE_S, 0, &mut s);
     replay::load(&answers::NONE_C, 0, &mut c);
     show_kernel(
+        stdout,
         2,
         &weights,
         &latitudes,
@@ -245,11 +256,11 @@ fn show_none() {
         &c,
         &answers::NONE_KC,
         &answers::NONE_KS,
-    );
+    )
 }
 
 // Zeros of either sign.
-fn show_zeros() {
+fn show_zeros(stdout: Stdout) -> Result<()> {
     let mut weights = [0.0; 2];
     let mut latitudes = [0.0; 4];
     let mut s = [0.0; 10];
@@ -259,6 +270,7 @@ fn show_zeros() {
     replay::load(&answers::ZEROS_S, 0, &mut s);
     replay::load(&answers::ZEROS_C, 0, &mut c);
     show_kernel(
+        stdout,
         2,
         &weights,
         &latitudes,
@@ -267,11 +279,11 @@ fn show_zeros() {
         &c,
         &answers::ZEROS_KC,
         &answers::ZEROS_KS,
-    );
+    )
 }
 
 // Nodes that are all skipped, and no nodes: the same tables of zeros.
-fn show_skipped() {
+fn show_skipped(stdout: Stdout) -> Result<()> {
     let mut weights = [0.0; 3];
     let mut latitudes = [0.0; 6];
     let mut s = [0.0; 15];
@@ -281,6 +293,7 @@ fn show_skipped() {
     replay::load(&answers::SKIPPED_S, 0, &mut s);
     replay::load(&answers::SKIPPED_C, 0, &mut c);
     show_kernel(
+        stdout,
         2,
         &weights,
         &latitudes,
@@ -289,13 +302,14 @@ fn show_skipped() {
         &c,
         &answers::SKIPPED_KC,
         &answers::SKIPPED_KS,
-    );
+    )
 }
 
-fn show_no_nodes() {
+fn show_no_nodes(stdout: Stdout) -> Result<()> {
     let none: [f64; 0] = [];
     let marks: [u8; 0] = [];
     show_kernel(
+        stdout,
         2,
         &none,
         &none,
@@ -304,11 +318,11 @@ fn show_no_nodes() {
         &none,
         &answers::SKIPPED_KC,
         &answers::SKIPPED_KS,
-    );
+    )
 }
 
 // Degree 22, above those of a concentration matrix, by lists of its own.
-fn show_of_22() {
+fn show_of_22(stdout: Stdout) -> Result<()> {
     let mut weights = [0.0; 3];
     let mut latitudes = [0.0; 6];
     let mut s = [0.0; 135];
@@ -317,10 +331,16 @@ fn show_of_22() {
     replay::load(&answers::OF_22_LATITUDES, 0, &mut latitudes);
     replay::load(&answers::OF_22_S, 0, &mut s);
     replay::load(&answers::OF_22_C, 0, &mut c);
-    show_22(&weights, &latitudes, &s, &c);
+    show_22(stdout, &weights, &latitudes, &s, &c)
 }
 
-fn show_22(weights: &[f64; 3], latitudes: &[f64; 6], s: &[f64; 135], c: &[f64; 135]) {
+fn show_22(
+    stdout: Stdout,
+    weights: &[f64; 3],
+    latitudes: &[f64; 6],
+    s: &[f64; 135],
+    c: &[f64; 135],
+) -> Result<()> {
     let mut work = [MARK; 828];
     let mut kc = [MARK; 277];
     let mut ks = [MARK; 277];
@@ -336,13 +356,13 @@ fn show_22(weights: &[f64; 3], latitudes: &[f64; 6], s: &[f64; 135], c: &[f64; 1
         &mut kc,
         &mut ks,
     );
-    show_words(b"basin_kernel, refusal ", &[number as u64], &[0], 0);
-    show(b"basin_kernel, kc ", &kc, &answers::OF_22_KC, 0);
-    show(b"basin_kernel, ks ", &ks, &answers::OF_22_KS, 0);
+    show_words(stdout, b"basin_kernel, refusal ", &[number as u64], &[0], 0)?;
+    show(stdout, b"basin_kernel, kc ", &kc, &answers::OF_22_KC, 0)?;
+    show(stdout, b"basin_kernel, ks ", &ks, &answers::OF_22_KS, 0)
 }
 
 // The numbers of a head.
-fn show_head(head: Head, due: &[u64; 5]) {
+fn show_head(stdout: Stdout, head: Head, due: &[u64; 5]) -> Result<()> {
     let tide = head.tide_system;
     let date = head.date;
     let words = [
@@ -352,11 +372,11 @@ fn show_head(head: Head, due: &[u64; 5]) {
         coefficients::dated_number(date) as u64,
         head.nmax as u64,
     ];
-    show_words(b"basin_kernel, head ", &words, due, 0);
+    show_words(stdout, b"basin_kernel, head ", &words, due, 0)
 }
 
 // The head that the call answers, which its entry for C does not hand on: gm and radius 1, the tide system unknown, no date, degree 1.
-fn show_made() {
+fn show_made(stdout: Stdout) -> Result<()> {
     let none: [f64; 0] = [];
     let marks: [u8; 0] = [];
     let mut work = [MARK; 9];
@@ -366,27 +386,32 @@ fn show_made() {
         1, 0, &none, &none, &marks, &none, &none, &mut work, &mut kc, &mut ks,
     ) {
         Model::Made(head) => {
-            show_head(head, &[0x3ff0000000000000, 0x3ff0000000000000, 3, 0, 1]);
+            show_head(
+                stdout,
+                head,
+                &[0x3ff0000000000000, 0x3ff0000000000000, 3, 0, 1],
+            )?;
         }
         Model::Refused(_) => {
-            io::write_all(1, b"basin_kernel refused\n");
+            replay_print::print(stdout, b"basin_kernel refused\n")?;
         }
     }
+    Ok(())
 }
 
-pub fn show_kernels() {
-    show_made();
-    show_of_0();
-    show_of_1();
-    show_of_2();
-    show_of_3();
-    show_of_7();
-    show_of_12();
-    show_strange();
-    show_large();
-    show_none();
-    show_zeros();
-    show_skipped();
-    show_no_nodes();
-    show_of_22();
+pub fn show_kernels(stdout: Stdout) -> Result<()> {
+    show_made(stdout)?;
+    show_of_0(stdout)?;
+    show_of_1(stdout)?;
+    show_of_2(stdout)?;
+    show_of_3(stdout)?;
+    show_of_7(stdout)?;
+    show_of_12(stdout)?;
+    show_strange(stdout)?;
+    show_large(stdout)?;
+    show_none(stdout)?;
+    show_zeros(stdout)?;
+    show_skipped(stdout)?;
+    show_no_nodes(stdout)?;
+    show_of_22(stdout)
 }

@@ -4,7 +4,10 @@
 mod kernel_answers;
 mod kernels;
 
-fn main() {
-    replay_cases::control();
-    kernels::show_kernels();
+use std::io::Result;
+
+fn main(rt: HostRuntime) -> Result<()> {
+    let stdout = rt.stdout();
+    replay_cases::control(stdout)?;
+    kernels::show_kernels(stdout)
 }

@@ -8,20 +8,22 @@ ghost use Rattle.std.specs.Prelude.{◌+◌, ◌<◌, ◌≤◌, length};
 
 use linalg::{Convergence, Solution};
 use replay_print::{show, show_words};
+use std::io::{Result, Stdout};
 
 // How a solver ended: 1 where it settled or 0, and its count.
-fn show_ended(ended: Convergence, due: &[u64], at: usize)
+fn show_ended(stdout: Stdout, ended: Convergence, due: &[u64], at: usize) -> Result<()>
     requires { at + 2 ≤ length due.now }
 {
     let told = [
         linalg::settled_number(ended.settled) as u64,
         ended.count as u64,
     ];
-    show_words(b"settled and count ", &told, due, at);
+    show_words(stdout, b"settled and count ", &told, due, at)
 }
 
 // The values of a call, its vectors behind them, and behind these how it ended.
 fn show_all(
+    stdout: Stdout,
     answer: Solution,
     values: &[f64],
     vectors: &[f64],
@@ -29,28 +31,38 @@ fn show_all(
     at: usize,
     first: &[u8],
     second: &[u8],
-)
+) -> Result<()>
     requires { (at + length values.now + length vectors.now + 2 ≤ length due.now) × ((length first.now ≤ 80) × (length second.now ≤ 80)) }
 {
     match answer {
         Solution::Solved(ended) => {
-            show(first, values, due, at);
-            show(second, vectors, due, at + values.len());
-            show_ended(ended, due, at + values.len() + vectors.len());
+            show(stdout, first, values, due, at)?;
+            show(stdout, second, vectors, due, at + values.len())?;
+            show_ended(stdout, ended, due, at + values.len() + vectors.len())?;
         }
         Solution::Refused(_) => {
-            io::write_all(1, b"refused\n");
+            replay_print::print(stdout, b"refused\n")?;
         }
     }
+    Ok(())
 }
 
 // A matrix of n rows by symmetric_eigen; the lists are those of its size.
-fn rotations(n: usize, a: &[f64], values: &mut [f64], vectors: &mut [f64], due: &[u64], at: usize)
+fn rotations(
+    stdout: Stdout,
+    n: usize,
+    a: &[f64],
+    values: &mut [f64],
+    vectors: &mut [f64],
+    due: &[u64],
+    at: usize,
+) -> Result<()>
     requires { at + length values.old + length vectors.old + 2 ≤ length due.now }
 {
     let mut work = [0.0; 1292];
     let answer = linalg::symmetric_eigen(n, a, &mut work, values, vectors);
     show_all(
+        stdout,
         answer,
         values,
         vectors,
@@ -58,16 +70,25 @@ fn rotations(n: usize, a: &[f64], values: &mut [f64], vectors: &mut [f64], due: 
         at,
         b"symmetric_eigen values ",
         b"symmetric_eigen vectors ",
-    );
+    )
 }
 
 // A matrix of n rows by householder_ql.
-fn reflections(n: usize, a: &[f64], values: &mut [f64], vectors: &mut [f64], due: &[u64], at: usize)
+fn reflections(
+    stdout: Stdout,
+    n: usize,
+    a: &[f64],
+    values: &mut [f64],
+    vectors: &mut [f64],
+    due: &[u64],
+    at: usize,
+) -> Result<()>
     requires { at + length values.old + length vectors.old + 2 ≤ length due.now }
 {
     let mut work = [0.0; 1292];
     let answer = linalg::householder_ql(n, a, &mut work, values, vectors);
     show_all(
+        stdout,
         answer,
         values,
         vectors,
@@ -75,11 +96,19 @@ fn reflections(n: usize, a: &[f64], values: &mut [f64], vectors: &mut [f64], due
         at,
         b"householder_ql values ",
         b"householder_ql vectors ",
-    );
+    )
 }
 
 // A matrix of n rows and `size` numbers by both calls, whose answers are due from index `at` of two lists.
-fn by_both(n: usize, size: usize, a: &[f64], rotated: &[u64], reflected: &[u64], at: usize)
+fn by_both(
+    stdout: Stdout,
+    n: usize,
+    size: usize,
+    a: &[f64],
+    rotated: &[u64],
+    reflected: &[u64],
+    at: usize,
+) -> Result<()>
     requires fact_1 { n ≤ 34 }
     requires fact_2 { size ≤ 1156 }
     requires fact_3 { at + n + size + 2 ≤ length rotated.now }
@@ -87,21 +116,31 @@ fn by_both(n: usize, size: usize, a: &[f64], rotated: &[u64], reflected: &[u64],
 {
     let mut values = [0.0; 34];
     let mut vectors = [0.0; 1156];
-    rotations(n, a, &mut values[..n], &mut vectors[..size], rotated, at);
+    rotations(
+        stdout,
+        n,
+        a,
+        &mut values[..n],
+        &mut vectors[..size],
+        rotated,
+        at,
+    )?;
     let mut anew = [0.0; 34];
     let mut vectors_anew = [0.0; 1156];
     reflections(
+        stdout,
         n,
         a,
         &mut anew[..n],
         &mut vectors_anew[..size],
         reflected,
         at,
-    );
+    )
 }
 
 // The matrix of n rows from index `start` of a list, by both calls; a has as many places as it has numbers.
 fn loaded(
+    stdout: Stdout,
     n: usize,
     a: &mut [f64],
     matrices: &[u64],
@@ -109,32 +148,34 @@ fn loaded(
     rotated: &[u64],
     reflected: &[u64],
     at: usize,
-)
+) -> Result<()>
     requires { (n ≤ 34) × ((length a.old ≤ 1156) × ((start + length a.old ≤ length matrices.now) × ((at + n + length a.old + 2 ≤ length rotated.now) × (at + n + length a.old + 2 ≤ length reflected.now)))) }
 {
     replay::load(matrices, start, a);
-    by_both(n, a.len(), a, rotated, reflected, at);
+    by_both(stdout, n, a.len(), a, rotated, reflected, at)
 }
 
 // The empty matrix.
-fn of_0() {
+fn of_0(stdout: Stdout) -> Result<()> {
     let a = [0.0; 1];
     by_both(
+        stdout,
         0,
         0,
         &a[..0],
         &solvers::SYMMETRIC_EIGEN_0,
         &solvers::HOUSEHOLDER_QL_0,
         0,
-    );
+    )
 }
 
 // Matrix j of 1 row.
-fn of_1(j: usize)
+fn of_1(stdout: Stdout, j: usize) -> Result<()>
     requires { j < 3 }
 {
     let mut a = [0.0; 1];
     loaded(
+        stdout,
         1,
         &mut a,
         &solvers::MATRICES_1,
@@ -142,15 +183,16 @@ fn of_1(j: usize)
         &solvers::SYMMETRIC_EIGEN_1,
         &solvers::HOUSEHOLDER_QL_1,
         4 * j,
-    );
+    )
 }
 
 // Matrix j of 2 rows.
-fn of_2(j: usize)
+fn of_2(stdout: Stdout, j: usize) -> Result<()>
     requires { j < 11 }
 {
     let mut a = [0.0; 4];
     loaded(
+        stdout,
         2,
         &mut a,
         &solvers::MATRICES_2,
@@ -158,15 +200,16 @@ fn of_2(j: usize)
         &solvers::SYMMETRIC_EIGEN_2,
         &solvers::HOUSEHOLDER_QL_2,
         8 * j,
-    );
+    )
 }
 
 // Matrix j of 3 rows.
-fn of_3(j: usize)
+fn of_3(stdout: Stdout, j: usize) -> Result<()>
     requires { j < 4 }
 {
     let mut a = [0.0; 9];
     loaded(
+        stdout,
         3,
         &mut a,
         &solvers::MATRICES_3,
@@ -174,15 +217,16 @@ fn of_3(j: usize)
         &solvers::SYMMETRIC_EIGEN_3,
         &solvers::HOUSEHOLDER_QL_3,
         14 * j,
-    );
+    )
 }
 
 // Matrix j of 4 rows.
-fn of_4(j: usize)
+fn of_4(stdout: Stdout, j: usize) -> Result<()>
     requires { j < 4 }
 {
     let mut a = [0.0; 16];
     loaded(
+        stdout,
         4,
         &mut a,
         &solvers::MATRICES_4,
@@ -190,13 +234,14 @@ fn of_4(j: usize)
         &solvers::SYMMETRIC_EIGEN_4,
         &solvers::HOUSEHOLDER_QL_4,
         22 * j,
-    );
+    )
 }
 
 // The matrix of 5 rows.
-fn of_5() {
+fn of_5(stdout: Stdout) -> Result<()> {
     let mut a = [0.0; 25];
     loaded(
+        stdout,
         5,
         &mut a,
         &solvers::MATRICES_5,
@@ -204,7 +249,7 @@ fn of_5() {
         &solvers::SYMMETRIC_EIGEN_5,
         &solvers::HOUSEHOLDER_QL_5,
         0,
-    );
+    )
 }
 
 // A dense symmetric matrix of n rows: whole numbers, by the formula that the oracle's matrix has.
@@ -227,99 +272,120 @@ fn side(i: usize) -> f64 {
 }
 
 // The dense matrix of n rows by both calls; a has as many places as it has numbers.
-fn of_dense(n: usize, a: &mut [f64], rotated: &[u64], reflected: &[u64])
+fn of_dense(
+    stdout: Stdout,
+    n: usize,
+    a: &mut [f64],
+    rotated: &[u64],
+    reflected: &[u64],
+) -> Result<()>
     requires { (0 < n) × ((n ≤ 34) × ((length a.old ≤ 1156) × ((n + length a.old + 2 ≤ length rotated.now) × (n + length a.old + 2 ≤ length reflected.now)))) }
 {
     dense(n, a);
-    by_both(n, a.len(), a, rotated, reflected, 0);
+    by_both(stdout, n, a.len(), a, rotated, reflected, 0)
 }
 
 // The values of n rows of one number by symmetric_eigen, and how it ended; a has as many places as the rows have numbers, and values one for each row.
-fn of_alike(n: usize, a: &[f64], values: &mut [f64], due: &[u64])
+fn of_alike(stdout: Stdout, n: usize, a: &[f64], values: &mut [f64], due: &[u64]) -> Result<()>
     requires { length values.old + 2 ≤ length due.now }
 {
     let mut work = [0.0; 1221];
     let mut vectors = [0.0; 1089];
     match linalg::symmetric_eigen(n, a, &mut work, values, &mut vectors) {
         Solution::Solved(ended) => {
-            show(b"symmetric_eigen of rows alike values ", values, due, 0);
-            show_ended(ended, due, values.len());
+            show(
+                stdout,
+                b"symmetric_eigen of rows alike values ",
+                values,
+                due,
+                0,
+            )?;
+            show_ended(stdout, ended, due, values.len())?;
         }
         Solution::Refused(_) => {
-            io::write_all(1, b"refused\n");
+            replay_print::print(stdout, b"refused\n")?;
         }
     }
+    Ok(())
 }
 
-fn alike(n: usize, size: usize, cell: f64, due: &[u64])
+fn alike(stdout: Stdout, n: usize, size: usize, cell: f64, due: &[u64]) -> Result<()>
     requires fact_1 { n ≤ 33 }
     requires fact_2 { size ≤ 1089 }
     requires fact_3 { n + 2 ≤ length due.now }
 {
     let a = [cell; 1089];
     let mut values = [0.0; 33];
-    of_alike(n, &a[..size], &mut values[..n], due);
+    of_alike(stdout, n, &a[..size], &mut values[..n], due)
 }
 
-fn all_of_2() {
-    of_2(0);
-    of_2(1);
-    of_2(2);
-    of_2(3);
-    of_2(4);
-    of_2(5);
-    of_2(6);
-    of_2(7);
-    of_2(8);
-    of_2(9);
-    of_2(10);
+fn all_of_2(stdout: Stdout) -> Result<()> {
+    of_2(stdout, 0)?;
+    of_2(stdout, 1)?;
+    of_2(stdout, 2)?;
+    of_2(stdout, 3)?;
+    of_2(stdout, 4)?;
+    of_2(stdout, 5)?;
+    of_2(stdout, 6)?;
+    of_2(stdout, 7)?;
+    of_2(stdout, 8)?;
+    of_2(stdout, 9)?;
+    of_2(stdout, 10)
 }
 
-fn all_listed() {
-    of_0();
-    of_1(0);
-    of_1(1);
-    of_1(2);
-    all_of_2();
-    of_3(0);
-    of_3(1);
-    of_3(2);
-    of_3(3);
-    of_4(0);
-    of_4(1);
-    of_4(2);
-    of_4(3);
-    of_5();
+fn all_listed(stdout: Stdout) -> Result<()> {
+    of_0(stdout)?;
+    of_1(stdout, 0)?;
+    of_1(stdout, 1)?;
+    of_1(stdout, 2)?;
+    all_of_2(stdout)?;
+    of_3(stdout, 0)?;
+    of_3(stdout, 1)?;
+    of_3(stdout, 2)?;
+    of_3(stdout, 3)?;
+    of_4(stdout, 0)?;
+    of_4(stdout, 1)?;
+    of_4(stdout, 2)?;
+    of_4(stdout, 3)?;
+    of_5(stdout)
 }
 
-fn all_dense() {
+fn all_dense(stdout: Stdout) -> Result<()> {
     let mut a = [0.0; 25];
     of_dense(
+        stdout,
         5,
         &mut a,
         &solvers::SYMMETRIC_EIGEN_DENSE_5,
         &solvers::HOUSEHOLDER_QL_DENSE_5,
-    );
+    )?;
     let mut large = [0.0; 1156];
-    of_dense(34, &mut large, &solvers::DENSE_34, &solvers::DENSE_34);
+    of_dense(
+        stdout,
+        34,
+        &mut large,
+        &solvers::DENSE_34,
+        &solvers::DENSE_34,
+    )
 }
 
 // Ones, and no numbers at all.
-fn all_alike() {
-    alike(27, 729, 1.0, &solvers::ONES_27);
-    alike(28, 784, 1.0, &solvers::ONES_28);
-    alike(29, 841, 1.0, &solvers::ONES_29);
-    alike(30, 900, 1.0, &solvers::ONES_30);
-    alike(31, 961, 1.0, &solvers::ONES_31);
-    alike(32, 1024, 1.0, &solvers::ONES_32);
-    alike(33, 1089, 1.0, &solvers::ONES_33);
+fn all_alike(stdout: Stdout) -> Result<()> {
+    alike(stdout, 27, 729, 1.0, &solvers::ONES_27)?;
+    alike(stdout, 28, 784, 1.0, &solvers::ONES_28)?;
+    alike(stdout, 29, 841, 1.0, &solvers::ONES_29)?;
+    alike(stdout, 30, 900, 1.0, &solvers::ONES_30)?;
+    alike(stdout, 31, 961, 1.0, &solvers::ONES_31)?;
+    alike(stdout, 32, 1024, 1.0, &solvers::ONES_32)?;
+    alike(stdout, 33, 1089, 1.0, &solvers::ONES_33)?;
     let nan = number::number_of_bits(0x7ff8_0000_0000_0000);
-    alike(33, 1089, nan, &solvers::NANS_33);
+    alike(stdout, 33, 1089, nan, &solvers::NANS_33)
 }
 
-fn main() {
-    replay_print::control();
-    all_listed();
-    all_dense();
-    all_alike();
+fn main(rt: HostRuntime) -> Result<()> {
+    let stdout = rt.stdout();
+    replay_print::control(stdout)?;
+    all_listed(stdout)?;
+    all_dense(stdout)?;
+    all_alike(stdout)
 }

@@ -7,9 +7,12 @@ mod examples;
 mod lists;
 mod refusals;
 
-fn main() {
-    replay_cases::control();
-    examples::show_examples();
-    lists::show_lists();
-    refusals::show_refusals();
+use std::io::Result;
+
+fn main(rt: HostRuntime) -> Result<()> {
+    let stdout = rt.stdout();
+    replay_cases::control(stdout)?;
+    examples::show_examples(stdout)?;
+    lists::show_lists(stdout)?;
+    refusals::show_refusals(stdout)
 }

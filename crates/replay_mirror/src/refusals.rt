@@ -4,6 +4,7 @@ ghost use Rattle.std.specs.Prelude.{◌≤◌, length};
 use crate::answers;
 use geopotential::tables::{geopotential_legendre_mirror, geopotential_legendre_mirror_derivative};
 use replay_cases::{MARK, Seen, room, size, touched};
+use std::io::{Result, Stdout};
 
 // N, and the length of the table.
 fn answer(derivative: bool, case: &[u64], x: &mut [f64]) -> u64
@@ -41,18 +42,20 @@ fn run(derivative: bool, cases: &[u64], out: &mut [u64])
     }
 }
 
-pub fn show_refusals() {
+pub fn show_refusals(stdout: Stdout) -> Result<()> {
     let mut out = [0u64; 64];
     run(false, &answers::LEGENDRE_MIRROR, &mut out);
     replay_cases::print_line(
+        stdout,
         b"legendre_mirror, cases ",
         &out,
         &answers::LEGENDRE_MIRROR_DUE,
-    );
+    )?;
     run(true, &answers::LEGENDRE_MIRROR, &mut out);
     replay_cases::print_line(
+        stdout,
         b"legendre_mirror_derivative, cases ",
         &out,
         &answers::LEGENDRE_MIRROR_DERIVATIVE_DUE,
-    );
+    )
 }

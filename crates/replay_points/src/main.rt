@@ -13,6 +13,7 @@ use legendre::Latitude;
 use local::{Partials, Point};
 use refusal::Answer;
 use replay_print::{show, show_words};
+use std::io::{Result, Stdout};
 
 fn head() -> Head {
     Head {
@@ -25,7 +26,12 @@ fn head() -> Head {
 }
 
 // All points at once.
-fn show_along(cbits: &[u64; 15], sbits: &[u64; 15], words: &[u64; 20]) {
+fn show_along(
+    stdout: Stdout,
+    cbits: &[u64; 15],
+    sbits: &[u64; 15],
+    words: &[u64; 20],
+) -> Result<()> {
     let mut c = [0.0; 15];
     let mut s = [0.0; 15];
     let mut radii = [0.0; 5];
@@ -49,21 +55,29 @@ fn show_along(cbits: &[u64; 15], sbits: &[u64; 15], words: &[u64; 20]) {
         &mut work,
         &mut out,
     ) {
-        Answer::Done => show(b"partials_along ", &out, words, 0),
+        Answer::Done => show(stdout, b"partials_along ", &out, words, 0)?,
         Answer::Refused(_) => {
-            io::write_all(1, b"partials_along refused\n");
+            replay_print::print(stdout, b"partials_along refused\n")?;
         }
     }
+    Ok(())
 }
 
 // What the four numbers at point i make of the local frame.
-fn show_local(i: usize, at: Partials, r: f64, latitude: Latitude, words: &[u64; 30])
+fn show_local(
+    stdout: Stdout,
+    i: usize,
+    at: Partials,
+    r: f64,
+    latitude: Latitude,
+    words: &[u64; 30],
+) -> Result<()>
     requires { i < 5 }
 {
     let acceleration = at.acceleration_neu(r, latitude);
-    show(b"acceleration_neu ", &acceleration, words, 6 * i);
+    show(stdout, b"acceleration_neu ", &acceleration, words, 6 * i)?;
     let gravity = at.gravity_neu(r, latitude, 0.00007292115);
-    show(b"gravity_neu ", &gravity, words, 6 * i + 3);
+    show(stdout, b"gravity_neu ", &gravity, words, 6 * i + 3)
 }
 
 fn latitude_of(i: usize) -> Latitude
@@ -93,50 +107,72 @@ fn partials_at(i: usize, cbits: &[u64; 15], sbits: &[u64; 15]) -> Point
     partials::partials(head(), &c, &s, r, latitude, &trig, &mut work)
 }
 
-fn show_point(i: usize, cbits: &[u64; 15], sbits: &[u64; 15], words: &[u64; 20], local: &[u64; 30])
+fn show_point(
+    stdout: Stdout,
+    i: usize,
+    cbits: &[u64; 15],
+    sbits: &[u64; 15],
+    words: &[u64; 20],
+    local: &[u64; 30],
+) -> Result<()>
     requires { i < 5 }
 {
     match partials_at(i, cbits, sbits) {
         Point::At(at) => {
             let four = [at.v, at.dr, at.dlat, at.dlon];
-            show(b"partials ", &four, words, 4 * i);
+            show(stdout, b"partials ", &four, words, 4 * i)?;
             let r = number::number_of_bits(points::RADII[i]);
-            show_local(i, at, r, latitude_of(i), local);
+            show_local(stdout, i, at, r, latitude_of(i), local)?;
         }
         Point::Refused(_) => {
-            io::write_all(1, b"partials refused\n");
+            replay_print::print(stdout, b"partials refused\n")?;
         }
     }
+    Ok(())
 }
 
-fn show_points(cbits: &[u64; 15], sbits: &[u64; 15], words: &[u64; 20], local: &[u64; 30]) {
-    show_along(cbits, sbits, words);
-    show_point(0, cbits, sbits, words, local);
-    show_point(1, cbits, sbits, words, local);
-    show_point(2, cbits, sbits, words, local);
-    show_point(3, cbits, sbits, words, local);
-    show_point(4, cbits, sbits, words, local);
+fn show_points(
+    stdout: Stdout,
+    cbits: &[u64; 15],
+    sbits: &[u64; 15],
+    words: &[u64; 20],
+    local: &[u64; 30],
+) -> Result<()> {
+    show_along(stdout, cbits, sbits, words)?;
+    show_point(stdout, 0, cbits, sbits, words, local)?;
+    show_point(stdout, 1, cbits, sbits, words, local)?;
+    show_point(stdout, 2, cbits, sbits, words, local)?;
+    show_point(stdout, 3, cbits, sbits, words, local)?;
+    show_point(stdout, 4, cbits, sbits, words, local)
 }
 
 // What analysis made: the head's gm and radius, the numbers of its tide and its degree.
-fn show_head(model: Head) {
+fn show_head(stdout: Stdout, model: Head) -> Result<()> {
     show(
+        stdout,
         b"analysis gm, radius ",
         &[model.gm, model.radius],
         &models::OTHER_HEAD,
         0,
-    );
+    )?;
     let tide = model.tide_system;
     show_words(
+        stdout,
         b"analysis tide, nmax ",
         &[coefficients::tide_number(tide) as u64, model.nmax as u64],
         &models::OTHER_NUMBERS,
         0,
-    );
+    )
 }
 
 // The coefficients of a grid's values: c, then s.
-fn show_analysis(functional: Functional, wbits: &[u64; 4], vbits: &[u64; 32], words: &[u64; 20]) {
+fn show_analysis(
+    stdout: Stdout,
+    functional: Functional,
+    wbits: &[u64; 4],
+    vbits: &[u64; 32],
+    words: &[u64; 20],
+) -> Result<()> {
     let mut values = [0.0; 32];
     let mut love = [0.0; 4];
     let mut weights = [0.0; 4];
@@ -166,75 +202,91 @@ fn show_analysis(functional: Functional, wbits: &[u64; 4], vbits: &[u64; 32], wo
         &mut s,
     ) {
         Model::Made(model) => {
-            show(b"analysis c ", &c, words, 0);
-            show(b"analysis s ", &s, words, 10);
-            show_head(model);
+            show(stdout, b"analysis c ", &c, words, 0)?;
+            show(stdout, b"analysis s ", &s, words, 10)?;
+            show_head(stdout, model)?;
         }
         Model::Refused(_) => {
-            io::write_all(1, b"analysis refused\n");
+            replay_print::print(stdout, b"analysis refused\n")?;
         }
     }
+    Ok(())
 }
 
-fn analyses() {
+fn analyses(stdout: Stdout) -> Result<()> {
     show_analysis(
+        stdout,
         Functional::GeoidHeight,
         &models::WEIGHTS,
         &models::VALUES,
         &models::GEOID_HEIGHT,
-    );
+    )?;
     show_analysis(
+        stdout,
         Functional::GravityAnomaly,
         &models::WEIGHTS,
         &models::VALUES,
         &models::GRAVITY_ANOMALY,
-    );
+    )?;
     show_analysis(
+        stdout,
         Functional::WaterHeight,
         &models::WEIGHTS,
         &models::VALUES,
         &models::WATER_HEIGHT,
-    );
+    )?;
     // weights that are not the same north and south
     show_analysis(
+        stdout,
         Functional::GeoidHeight,
         &models::OTHER_WEIGHTS,
         &models::VALUES,
         &models::OTHER,
-    );
+    )
 }
 
 // Special values.
-fn special_analyses() {
+fn special_analyses(stdout: Stdout) -> Result<()> {
     show_analysis(
+        stdout,
         Functional::GeoidHeight,
         &models::WEIGHTS,
         &models::SPECIAL_VALUES,
         &models::SPECIAL_GEOID_HEIGHT,
-    );
+    )?;
     show_analysis(
+        stdout,
         Functional::GravityAnomaly,
         &models::WEIGHTS,
         &models::SPECIAL_VALUES,
         &models::SPECIAL_GRAVITY_ANOMALY,
-    );
+    )?;
     show_analysis(
+        stdout,
         Functional::WaterHeight,
         &models::WEIGHTS,
         &models::SPECIAL_VALUES,
         &models::SPECIAL_WATER_HEIGHT,
-    );
+    )
 }
 
-fn main() {
-    replay_print::control();
-    show_points(&points::C, &points::S, &points::PARTIALS, &points::LOCAL);
+fn main(rt: HostRuntime) -> Result<()> {
+    let stdout = rt.stdout();
+    replay_print::control(stdout)?;
     show_points(
+        stdout,
+        &points::C,
+        &points::S,
+        &points::PARTIALS,
+        &points::LOCAL,
+    )?;
+    show_points(
+        stdout,
         &points::SPECIAL_C,
         &points::SPECIAL_S,
         &points::SPECIAL_PARTIALS,
         &points::SPECIAL_LOCAL,
-    );
-    analyses();
-    special_analyses();
+    )?;
+    analyses(stdout)?;
+    special_analyses(stdout)
 }

@@ -9,6 +9,7 @@ mod tables;
 ghost use Rattle.std.specs.Prelude.{◌*◌, ◌≤◌, length};
 
 use replay_cases::{MARK, Seen, joined, touched};
+use std::io::{Result, Stdout};
 
 // One case of a call on models, or on tables.
 fn answer(which: usize, case: &[u64], list: &[f64], x: &mut [f64], y: &mut [f64]) -> u64
@@ -65,122 +66,162 @@ fn run(which: usize, cases: &[u64], out: &mut [u64])
     }
 }
 
-fn print(name: &[u8], which: usize, cases: &[u64], due: &[u64])
+fn print(stdout: Stdout, name: &[u8], which: usize, cases: &[u64], due: &[u64]) -> Result<()>
     requires { (length name.now ≤ 80) × ((length cases.now ≤ 300) × (length due.now ≤ 100)) }
 {
     let mut out = [0u64; 100];
     run(which, cases, &mut out);
-    replay_cases::print_line(name, &out, due);
+    replay_cases::print_line(stdout, name, &out, due)
 }
 
-fn print_models() {
-    print(b"factor ", 0, &cases::FACTOR, &cases::FACTOR_DUE);
-    print(b"zeros ", 1, &cases::ZEROS, &cases::ZEROS_DUE);
-    print(b"truncated ", 2, &cases::TRUNCATED, &cases::TRUNCATED_DUE);
-    print(b"rescaled ", 3, &cases::RESCALED, &cases::RESCALED_DUE);
+fn print_models(stdout: Stdout) -> Result<()> {
+    print(stdout, b"factor ", 0, &cases::FACTOR, &cases::FACTOR_DUE)?;
+    print(stdout, b"zeros ", 1, &cases::ZEROS, &cases::ZEROS_DUE)?;
     print(
+        stdout,
+        b"truncated ",
+        2,
+        &cases::TRUNCATED,
+        &cases::TRUNCATED_DUE,
+    )?;
+    print(
+        stdout,
+        b"rescaled ",
+        3,
+        &cases::RESCALED,
+        &cases::RESCALED_DUE,
+    )?;
+    print(
+        stdout,
         b"degree_variances ",
         4,
         &cases::DEGREE_VARIANCES,
         &cases::DEGREE_VARIANCES_DUE,
-    );
+    )?;
     print(
+        stdout,
         b"degree_amplitudes ",
         5,
         &cases::DEGREE_AMPLITUDES,
         &cases::DEGREE_AMPLITUDES_DUE,
-    );
-    print(b"c ", 6, &cases::ENTRY, &cases::ENTRY_DUE);
-    print(b"s ", 7, &cases::ENTRY, &cases::ENTRY_DUE);
-    print(b"set ", 8, &cases::SET, &cases::SET_DUE);
+    )?;
+    print(stdout, b"c ", 6, &cases::ENTRY, &cases::ENTRY_DUE)?;
+    print(stdout, b"s ", 7, &cases::ENTRY, &cases::ENTRY_DUE)?;
+    print(stdout, b"set ", 8, &cases::SET, &cases::SET_DUE)
 }
 
-fn print_tables() {
+fn print_tables(stdout: Stdout) -> Result<()> {
     print(
+        stdout,
         b"legendre new ",
         9,
         &cases::LEGENDRE_NEW,
         &cases::LEGENDRE_NEW_DUE,
-    );
+    )?;
     print(
+        stdout,
         b"legendre grow ",
         10,
         &cases::LEGENDRE_GROW,
         &cases::LEGENDRE_GROW_DUE,
-    );
+    )?;
     print(
+        stdout,
         b"legendre compute ",
         11,
         &cases::LEGENDRE_COMPUTE,
         &cases::LEGENDRE_COMPUTE_DUE,
-    );
+    )?;
     print(
+        stdout,
         b"legendre compute_with_derivative ",
         12,
         &cases::COMPUTE_WITH_DERIVATIVE,
         &cases::COMPUTE_WITH_DERIVATIVE_DUE,
-    );
-    print(b"legendre p ", 13, &cases::ENTRY, &cases::ENTRY_DUE);
-    print(b"legendre dp ", 14, &cases::ENTRY, &cases::ENTRY_DUE);
+    )?;
+    print(stdout, b"legendre p ", 13, &cases::ENTRY, &cases::ENTRY_DUE)?;
     print(
+        stdout,
+        b"legendre dp ",
+        14,
+        &cases::ENTRY,
+        &cases::ENTRY_DUE,
+    )?;
+    print(
+        stdout,
         b"gauss_legendre ",
         15,
         &cases::GAUSS_LEGENDRE,
         &cases::GAUSS_LEGENDRE_DUE,
-    );
+    )
 }
 
-fn print_zeros_heads() {
-    replay_print::show_words(b"head of zeros ", &models::zeros_head(0), &cases::HEADS, 0);
-    replay_print::show_words(b"head of zeros ", &models::zeros_head(1), &cases::HEADS, 5);
+fn print_zeros_heads(stdout: Stdout) -> Result<()> {
+    replay_print::show_words(
+        stdout,
+        b"head of zeros ",
+        &models::zeros_head(0),
+        &cases::HEADS,
+        0,
+    )?;
+    replay_print::show_words(
+        stdout,
+        b"head of zeros ",
+        &models::zeros_head(1),
+        &cases::HEADS,
+        5,
+    )
 }
 
 // The head of a field of degree 1 with a tide system and a date, cut at `cut`, and the one due at index `at`.
-fn print_truncated_head(tide: usize, cut: usize, date: u64, at: usize)
+fn print_truncated_head(stdout: Stdout, tide: usize, cut: usize, date: u64, at: usize) -> Result<()>
     requires { at ≤ 60 }
 {
     replay_print::show_words(
+        stdout,
         b"head of truncated ",
         &models::truncated_head(tide, cut, date),
         &cases::HEADS,
         at,
-    );
+    )
 }
 
-fn print_truncated_heads() {
-    print_truncated_head(0, 0, 0, 10);
-    print_truncated_head(1, 0, 1, 15);
-    print_truncated_head(2, 0, 3, 20);
-    print_truncated_head(3, 0, 6, 25);
-    print_truncated_head(0, 1, 4, 30);
-    print_truncated_head(1, 2, 5, 35);
-    print_truncated_head(2, 2701, 0, 40);
+fn print_truncated_heads(stdout: Stdout) -> Result<()> {
+    print_truncated_head(stdout, 0, 0, 0, 10)?;
+    print_truncated_head(stdout, 1, 0, 1, 15)?;
+    print_truncated_head(stdout, 2, 0, 3, 20)?;
+    print_truncated_head(stdout, 3, 0, 6, 25)?;
+    print_truncated_head(stdout, 0, 1, 4, 30)?;
+    print_truncated_head(stdout, 1, 2, 5, 35)?;
+    print_truncated_head(stdout, 2, 2701, 0, 40)
 }
 
 // The head of a rescaled field with a tide system and a date, and the one due at index `at`.
-fn print_rescaled_head(tide: usize, date: u64, at: usize)
+fn print_rescaled_head(stdout: Stdout, tide: usize, date: u64, at: usize) -> Result<()>
     requires { at ≤ 60 }
 {
     replay_print::show_words(
+        stdout,
         b"head of rescaled ",
         &models::rescaled_head(tide, date),
         &cases::HEADS,
         at,
-    );
+    )
 }
 
-fn print_rescaled_heads() {
-    print_rescaled_head(0, 0, 45);
-    print_rescaled_head(1, 1, 50);
-    print_rescaled_head(2, 8, 55);
-    print_rescaled_head(3, 6, 60);
+fn print_rescaled_heads(stdout: Stdout) -> Result<()> {
+    print_rescaled_head(stdout, 0, 0, 45)?;
+    print_rescaled_head(stdout, 1, 1, 50)?;
+    print_rescaled_head(stdout, 2, 8, 55)?;
+    print_rescaled_head(stdout, 3, 6, 60)
 }
 
-fn main() {
-    replay_cases::control();
-    print_models();
-    print_tables();
-    print_zeros_heads();
-    print_truncated_heads();
-    print_rescaled_heads();
+fn main(rt: HostRuntime) -> Result<()> {
+    let stdout = rt.stdout();
+    replay_cases::control(stdout)?;
+    print_models(stdout)?;
+    print_tables(stdout)?;
+    print_zeros_heads(stdout)?;
+    print_truncated_heads(stdout)?;
+    print_rescaled_heads(stdout)
 }

@@ -10,6 +10,7 @@ mod model_files;
 ghost use Rattle.std.specs.Prelude.{◌*◌, ◌≤◌, length};
 
 use replay_cases::{MARK, Seen, joined, size, touched};
+use std::io::{Result, Stdout};
 
 // One case of an entry on numbers.
 fn answer(
@@ -75,63 +76,89 @@ fn run(which: usize, cases: &[u64], out: &mut [u64])
     }
 }
 
-fn print(name: &[u8], which: usize, cases: &[u64], due: &[u64])
+fn print(stdout: Stdout, name: &[u8], which: usize, cases: &[u64], due: &[u64]) -> Result<()>
     requires { (length name.now ≤ 80) × ((length cases.now ≤ 720) × (length due.now ≤ 120)) }
 {
     let mut out = [0u64; 120];
     run(which, cases, &mut out);
-    replay_cases::print_line(name, &out, due);
+    replay_cases::print_line(stdout, name, &out, due)
 }
 
-fn main() {
-    replay_cases::control();
-    print(b"factor ", 0, &cases::FACTOR, &cases::FACTOR_DUE);
+fn main(rt: HostRuntime) -> Result<()> {
+    let stdout = rt.stdout();
+    replay_cases::control(stdout)?;
+    print(stdout, b"factor ", 0, &cases::FACTOR, &cases::FACTOR_DUE)?;
     print(
+        stdout,
         b"degree_amplitudes ",
         1,
         &cases::DEGREE_AMPLITUDES,
         &cases::DEGREE_AMPLITUDES_DUE,
-    );
-    print(b"grid ", 2, &cases::GRID, &cases::GRID_DUE);
+    )?;
+    print(stdout, b"grid ", 2, &cases::GRID, &cases::GRID_DUE)?;
     print(
+        stdout,
         b"basin_average ",
         3,
         &cases::BASIN_AVERAGE,
         &cases::BASIN_AVERAGE_DUE,
-    );
-    print(b"analysis ", 4, &cases::ANALYSIS, &cases::ANALYSIS_DUE);
-    print(b"partials ", 5, &cases::PARTIALS, &cases::PARTIALS_DUE);
+    )?;
     print(
+        stdout,
+        b"analysis ",
+        4,
+        &cases::ANALYSIS,
+        &cases::ANALYSIS_DUE,
+    )?;
+    print(
+        stdout,
+        b"partials ",
+        5,
+        &cases::PARTIALS,
+        &cases::PARTIALS_DUE,
+    )?;
+    print(
+        stdout,
         b"second_partials ",
         6,
         &cases::SECOND_PARTIALS,
         &cases::SECOND_PARTIALS_DUE,
-    );
+    )?;
     print(
+        stdout,
         b"second_partials_along ",
         7,
         &cases::SECOND_PARTIALS_ALONG,
         &cases::SECOND_PARTIALS_ALONG_DUE,
-    );
-    print(b"acceleration_neu ", 8, &cases::THREE, &cases::THREE_DUE);
-    print(b"gravity_neu ", 9, &cases::THREE, &cases::THREE_DUE);
-    print(b"tensor_neu ", 10, &cases::NINE, &cases::NINE_DUE);
+    )?;
     print(
+        stdout,
+        b"acceleration_neu ",
+        8,
+        &cases::THREE,
+        &cases::THREE_DUE,
+    )?;
+    print(stdout, b"gravity_neu ", 9, &cases::THREE, &cases::THREE_DUE)?;
+    print(stdout, b"tensor_neu ", 10, &cases::NINE, &cases::NINE_DUE)?;
+    print(
+        stdout,
         b"legendre_grow ",
         11,
         &cases::LEGENDRE_GROW,
         &cases::LEGENDRE_GROW_DUE,
-    );
+    )?;
     print(
+        stdout,
         b"model_read ",
         12,
         &cases::MODEL_READ,
         &cases::MODEL_READ_DUE,
-    );
+    )?;
     print(
+        stdout,
         b"model_write ",
         13,
         &cases::MODEL_WRITE,
         &cases::MODEL_WRITE_DUE,
-    );
+    )
 }

@@ -10,6 +10,7 @@ ghost use Rattle.std.specs.Prelude.{◌*◌, ◌≤◌, length};
 
 use functional::Functional;
 use replay_cases::{MARK, Seen, joined, size, touched};
+use std::io::{Result, Stdout};
 
 // One case of a call.
 fn answer(
@@ -68,12 +69,12 @@ fn run(which: usize, cases: &[u64], out: &mut [u64])
     }
 }
 
-fn print(name: &[u8], which: usize, cases: &[u64], due: &[u64])
+fn print(stdout: Stdout, name: &[u8], which: usize, cases: &[u64], due: &[u64]) -> Result<()>
     requires { (length name.now ≤ 80) × ((length cases.now ≤ 720) × (length due.now ≤ 120)) }
 {
     let mut out = [0u64; 120];
     run(which, cases, &mut out);
-    replay_cases::print_line(name, &out, due);
+    replay_cases::print_line(stdout, name, &out, due)
 }
 
 // The head of an analysed model.
@@ -105,48 +106,66 @@ fn head_of(
     ))
 }
 
-fn print_heads() {
+fn print_heads(stdout: Stdout) -> Result<()> {
     let one = [0.5; 1];
     let two = [0.5; 2];
     let four = [0.5; 4];
     let eight = [0.5; 8];
     let sixteen = [0.5; 16];
     replay_print::show_words(
+        stdout,
         b"head of analysis ",
         &head_of(0, &two, &one, &two, &four),
         &cases::HEADS,
         0,
-    );
+    )?;
     replay_print::show_words(
+        stdout,
         b"head of analysis ",
         &head_of(1, &eight, &two, &four, &sixteen),
         &cases::HEADS,
         5,
-    );
+    )
 }
 
-fn main() {
-    replay_cases::control();
-    print(b"grid ", 0, &cases::GRID, &cases::GRID_DUE);
+fn main(rt: HostRuntime) -> Result<()> {
+    let stdout = rt.stdout();
+    replay_cases::control(stdout)?;
+    print(stdout, b"grid ", 0, &cases::GRID, &cases::GRID_DUE)?;
     print(
+        stdout,
         b"basin_average ",
         1,
         &cases::BASIN_AVERAGE,
         &cases::BASIN_AVERAGE_DUE,
-    );
-    print(b"analysis ", 2, &cases::ANALYSIS, &cases::ANALYSIS_DUE);
+    )?;
     print(
+        stdout,
+        b"analysis ",
+        2,
+        &cases::ANALYSIS,
+        &cases::ANALYSIS_DUE,
+    )?;
+    print(
+        stdout,
         b"symmetric_eigen ",
         3,
         &cases::SYMMETRIC_EIGEN,
         &cases::SYMMETRIC_EIGEN_DUE,
-    );
+    )?;
     print(
+        stdout,
         b"householder_ql ",
         4,
         &cases::HOUSEHOLDER_QL,
         &cases::HOUSEHOLDER_QL_DUE,
-    );
-    print(b"polar_cap ", 5, &cases::POLAR_CAP, &cases::POLAR_CAP_DUE);
-    print_heads();
+    )?;
+    print(
+        stdout,
+        b"polar_cap ",
+        5,
+        &cases::POLAR_CAP,
+        &cases::POLAR_CAP_DUE,
+    )?;
+    print_heads(stdout)
 }

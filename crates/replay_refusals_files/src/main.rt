@@ -11,6 +11,7 @@ use model_file::{FileHead, Reading};
 use replay_cases::{
     MARK_BYTE, MARK_WORD, Seen, column, joined, of_answer, room, size, touched_bytes, touched_words,
 };
+use std::io::{Result, Stdout};
 
 // How many bytes are kept of the file and of what stands behind it.
 fn kept(case: &[u64]) -> usize
@@ -152,52 +153,59 @@ fn run(which: usize, cases: &[u64], out: &mut [u64])
     }
 }
 
-fn print(name: &[u8], which: usize, cases: &[u64], due: &[u64])
+fn print(stdout: Stdout, name: &[u8], which: usize, cases: &[u64], due: &[u64]) -> Result<()>
     requires { (length name.now ≤ 80) × ((length cases.now ≤ 800) × (length due.now ≤ 200)) }
 {
     let mut out = [0u64; 200];
     run(which, cases, &mut out);
-    replay_cases::print_line(name, &out, due);
+    replay_cases::print_line(stdout, name, &out, due)
 }
 
-fn main() {
-    replay_cases::control();
-    print(b"read ", 0, &cases::READ, &cases::READ_DUE);
+fn main(rt: HostRuntime) -> Result<()> {
+    let stdout = rt.stdout();
+    replay_cases::control(stdout)?;
+    print(stdout, b"read ", 0, &cases::READ, &cases::READ_DUE)?;
     print(
+        stdout,
         b"head and verdict ",
         1,
         &cases::READ,
         &cases::READ_VERDICT_DUE,
-    );
+    )?;
     print(
+        stdout,
         b"read, other copies with short lists ",
         0,
         &cases::READ_TOO_SHORT,
         &cases::READ_TOO_SHORT_DUE,
-    );
+    )?;
     print(
+        stdout,
         b"read of a dated file ",
         2,
         &cases::READ_DATED,
         &cases::READ_DATED_DUE,
-    );
+    )?;
     print(
+        stdout,
         b"head and verdict of a dated file ",
         3,
         &cases::READ_DATED,
         &cases::READ_DATED_VERDICT_DUE,
-    );
+    )?;
     print(
+        stdout,
         b"read of a dated file, other copies with short lists ",
         2,
         &cases::READ_DATED_TOO_SHORT,
         &cases::READ_DATED_TOO_SHORT_DUE,
-    );
-    print(b"write ", 4, &cases::WRITE, &cases::WRITE_DUE);
+    )?;
+    print(stdout, b"write ", 4, &cases::WRITE, &cases::WRITE_DUE)?;
     print(
+        stdout,
         b"write of a dated model ",
         5,
         &cases::WRITE_DATED,
         &cases::WRITE_DATED_DUE,
-    );
+    )
 }

@@ -8,6 +8,7 @@ mod points;
 ghost use Rattle.std.specs.Prelude.{◌*◌, ◌≤◌, length};
 
 use replay_cases::{MARK, Seen, joined, size, touched};
+use std::io::{Result, Stdout};
 
 // One case of a call.
 fn answer(which: usize, case: &[u64], list: &[f64], w: &mut [f64], x: &mut [f64]) -> u64
@@ -49,33 +50,43 @@ fn run(which: usize, cases: &[u64], out: &mut [u64])
     }
 }
 
-fn print(name: &[u8], which: usize, cases: &[u64], due: &[u64])
+fn print(stdout: Stdout, name: &[u8], which: usize, cases: &[u64], due: &[u64]) -> Result<()>
     requires { (length name.now ≤ 80) × ((length cases.now ≤ 720) × (length due.now ≤ 120)) }
 {
     let mut out = [0u64; 120];
     run(which, cases, &mut out);
-    replay_cases::print_line(name, &out, due);
+    replay_cases::print_line(stdout, name, &out, due)
 }
 
-fn main() {
-    replay_cases::control();
-    print(b"partials ", 0, &cases::PARTIALS, &cases::PARTIALS_DUE);
+fn main(rt: HostRuntime) -> Result<()> {
+    let stdout = rt.stdout();
+    replay_cases::control(stdout)?;
     print(
+        stdout,
+        b"partials ",
+        0,
+        &cases::PARTIALS,
+        &cases::PARTIALS_DUE,
+    )?;
+    print(
+        stdout,
         b"partials_along ",
         1,
         &cases::PARTIALS_ALONG,
         &cases::PARTIALS_ALONG_DUE,
-    );
+    )?;
     print(
+        stdout,
         b"second_partials ",
         2,
         &cases::SECOND_PARTIALS,
         &cases::SECOND_PARTIALS_DUE,
-    );
+    )?;
     print(
+        stdout,
         b"second_partials_along ",
         3,
         &cases::SECOND_PARTIALS_ALONG,
         &cases::SECOND_PARTIALS_ALONG_DUE,
-    );
+    )
 }

@@ -6,8 +6,11 @@ mod cases;
 mod refusals;
 mod told;
 
-fn main() {
-    replay_cases::control();
-    refusals::show_refusals();
-    told::show_told();
+use std::io::Result;
+
+fn main(rt: HostRuntime) -> Result<()> {
+    let stdout = rt.stdout();
+    replay_cases::control(stdout)?;
+    refusals::show_refusals(stdout)?;
+    told::show_told(stdout)
 }

@@ -4,6 +4,7 @@ ghost use Rattle.std.specs.Prelude.{◌*◌, ◌≤◌, length};
 use crate::cases;
 use geopotential::free_regions::{geopotential_concentration_matrix, geopotential_region};
 use replay_cases::{MARK, Seen, joined, room, size, touched};
+use std::io::{Result, Stdout};
 
 // L, the nodes, and the lengths of the weights, latitudes, marks, s, c, of the working list and of the matrix.
 fn concentration_matrix(
@@ -150,25 +151,27 @@ fn run(functions: bool, cases: &[u64], out: &mut [u64])
     }
 }
 
-fn print(name: &[u8], functions: bool, cases: &[u64], due: &[u64])
+fn print(stdout: Stdout, name: &[u8], functions: bool, cases: &[u64], due: &[u64]) -> Result<()>
     requires { (length name.now ≤ 80) × ((length cases.now ≤ 720) × (length due.now ≤ 120)) }
 {
     let mut out = [0u64; 120];
     run(functions, cases, &mut out);
-    replay_cases::print_line(name, &out, due);
+    replay_cases::print_line(stdout, name, &out, due)
 }
 
-pub fn show_refusals() {
+pub fn show_refusals(stdout: Stdout) -> Result<()> {
     print(
+        stdout,
         b"concentration_matrix, refusals ",
         false,
         &cases::CONCENTRATION_MATRIX,
         &cases::CONCENTRATION_MATRIX_DUE,
-    );
+    )?;
     print(
+        stdout,
         b"region, refusals ",
         true,
         &cases::REGION,
         &cases::REGION_DUE,
-    );
+    )
 }

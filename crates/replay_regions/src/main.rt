@@ -4,7 +4,10 @@
 mod answers;
 mod values;
 
-fn main() {
-    replay_cases::control();
-    values::show_values();
+use std::io::Result;
+
+fn main(rt: HostRuntime) -> Result<()> {
+    let stdout = rt.stdout();
+    replay_cases::control(stdout)?;
+    values::show_values(stdout)
 }

@@ -4,18 +4,20 @@ ghost use Rattle.std.specs.Prelude.{◌≤◌, length};
 use crate::answers;
 use geopotential::free_regions::{geopotential_concentration_matrix, geopotential_region};
 use replay_print::{show, show_words};
+use std::io::{Result, Stdout};
 
 // The front of a list, as many numbers as there are due.
-fn show_front(name: &[u8], list: &[f64], words: &[u64])
+fn show_front(stdout: Stdout, name: &[u8], list: &[f64], words: &[u64]) -> Result<()>
     requires fact_1 { length words.now ≤ length list.now }
     requires fact_2 { length name.now ≤ 80 }
 {
     let k = words.len();
-    show(name, &list[..k], words, 0);
+    show(stdout, name, &list[..k], words, 0)
 }
 
 // A region's matrix, of degree 5 at most; the list for it has room for that degree.
 fn show_matrix(
+    stdout: Stdout,
     lmax: usize,
     weights: &[f64],
     latitudes: &[f64],
@@ -23,7 +25,7 @@ fn show_matrix(
     s: &[f64],
     c: &[f64],
     due: &[u64],
-)
+) -> Result<()>
     requires { length due.now ≤ 1296 }
 {
     let mut work = [0.0; 63];
@@ -39,39 +41,54 @@ fn show_matrix(
         &mut work,
         &mut matrix,
     );
-    show_words(b"concentration_matrix, refusal ", &[number as u64], &[0], 0);
-    show_front(b"concentration_matrix ", &matrix, due);
+    show_words(
+        stdout,
+        b"concentration_matrix, refusal ",
+        &[number as u64],
+        &[0],
+        0,
+    )?;
+    show_front(stdout, b"concentration_matrix ", &matrix, due)
 }
 
 // What a call answered by its numbers: the refusal's, and how the solver ended.
-fn show_ended(number: u32, settled: u32, count: usize, due: &[u64; 2]) {
-    show_words(b"region, refusal ", &[number as u64], &[0], 0);
+fn show_ended(
+    stdout: Stdout,
+    number: u32,
+    settled: u32,
+    count: usize,
+    due: &[u64; 2],
+) -> Result<()> {
+    show_words(stdout, b"region, refusal ", &[number as u64], &[0], 0)?;
     show_words(
+        stdout,
         b"region, settled and count ",
         &[settled as u64, count as u64],
         due,
         0,
-    );
+    )
 }
 
 // The fronts of its lists.
 fn show_lists(
+    stdout: Stdout,
     concentrations: &[f64; 36],
     cs: &[f64; 756],
     ss: &[f64; 756],
     due: &[u64],
     cosines: &[u64],
     sines: &[u64],
-)
+) -> Result<()>
     requires { (length due.now ≤ 36) × ((length cosines.now ≤ 756) × (length sines.now ≤ 756)) }
 {
-    show_front(b"region, concentrations ", concentrations, due);
-    show_front(b"region, c ", cs, cosines);
-    show_front(b"region, s ", ss, sines);
+    show_front(stdout, b"region, concentrations ", concentrations, due)?;
+    show_front(stdout, b"region, c ", cs, cosines)?;
+    show_front(stdout, b"region, s ", ss, sines)
 }
 
 // Its functions.
 fn show_functions(
+    stdout: Stdout,
     lmax: usize,
     weights: &[f64],
     latitudes: &[f64],
@@ -82,7 +99,7 @@ fn show_functions(
     cosines: &[u64],
     sines: &[u64],
     ended: &[u64; 2],
-)
+) -> Result<()>
     requires { (length due.now ≤ 36) × ((length cosines.now ≤ 756) × (length sines.now ≤ 756)) }
 {
     let mut work = [0.0; 5427];
@@ -106,12 +123,12 @@ fn show_functions(
         &mut settled,
         &mut count,
     );
-    show_ended(number, settled, count, ended);
-    show_lists(&concentrations, &cs, &ss, due, cosines, sines);
+    show_ended(stdout, number, settled, count, ended)?;
+    show_lists(stdout, &concentrations, &cs, &ss, due, cosines, sines)
 }
 
 // A region of degree 0, of three nodes, one of them skipped.
-fn show_of_0() {
+fn show_of_0(stdout: Stdout) -> Result<()> {
     let mut weights = [0.0; 3];
     let mut latitudes = [0.0; 6];
     let mut s = [0.0; 3];
@@ -121,6 +138,7 @@ fn show_of_0() {
     replay::load(&answers::OF_0_S, 0, &mut s);
     replay::load(&answers::OF_0_C, 0, &mut c);
     show_matrix(
+        stdout,
         0,
         &weights,
         &latitudes,
@@ -128,8 +146,9 @@ fn show_of_0() {
         &s,
         &c,
         &answers::OF_0_MATRIX,
-    );
+    )?;
     show_functions(
+        stdout,
         0,
         &weights,
         &latitudes,
@@ -140,11 +159,11 @@ fn show_of_0() {
         &answers::OF_0_COSINES,
         &answers::OF_0_SINES,
         &answers::OF_0_ENDED,
-    );
+    )
 }
 
 // Degree 1.
-fn show_of_1() {
+fn show_of_1(stdout: Stdout) -> Result<()> {
     let mut weights = [0.0; 3];
     let mut latitudes = [0.0; 6];
     let mut s = [0.0; 9];
@@ -154,6 +173,7 @@ fn show_of_1() {
     replay::load(&answers::OF_1_S, 0, &mut s);
     replay::load(&answers::OF_1_C, 0, &mut c);
     show_matrix(
+        stdout,
         1,
         &weights,
         &latitudes,
@@ -161,8 +181,9 @@ fn show_of_1() {
         &s,
         &c,
         &answers::OF_1_MATRIX,
-    );
+    )?;
     show_functions(
+        stdout,
         1,
         &weights,
         &latitudes,
@@ -173,11 +194,11 @@ fn show_of_1() {
         &answers::OF_1_COSINES,
         &answers::OF_1_SINES,
         &answers::OF_1_ENDED,
-    );
+    )
 }
 
 // Degree 2.
-fn show_of_2() {
+fn show_of_2(stdout: Stdout) -> Result<()> {
     let mut weights = [0.0; 3];
     let mut latitudes = [0.0; 6];
     let mut s = [0.0; 15];
@@ -187,6 +208,7 @@ fn show_of_2() {
     replay::load(&answers::OF_2_S, 0, &mut s);
     replay::load(&answers::OF_2_C, 0, &mut c);
     show_matrix(
+        stdout,
         2,
         &weights,
         &latitudes,
@@ -194,8 +216,9 @@ fn show_of_2() {
         &s,
         &c,
         &answers::OF_2_MATRIX,
-    );
+    )?;
     show_functions(
+        stdout,
         2,
         &weights,
         &latitudes,
@@ -206,11 +229,11 @@ fn show_of_2() {
         &answers::OF_2_COSINES,
         &answers::OF_2_SINES,
         &answers::OF_2_ENDED,
-    );
+    )
 }
 
 // Sums that overflow, products that vanish, zeros of either sign.
-fn show_strange() {
+fn show_strange(stdout: Stdout) -> Result<()> {
     let mut weights = [0.0; 3];
     let mut latitudes = [0.0; 6];
     let mut s = [0.0; 9];
@@ -220,6 +243,7 @@ fn show_strange() {
     replay::load(&answers::STRANGE_S, 0, &mut s);
     replay::load(&answers::STRANGE_C, 0, &mut c);
     show_matrix(
+        stdout,
         1,
         &weights,
         &latitudes,
@@ -227,8 +251,9 @@ fn show_strange() {
         &s,
         &c,
         &answers::STRANGE_MATRIX,
-    );
+    )?;
     show_functions(
+        stdout,
         1,
         &weights,
         &latitudes,
@@ -239,11 +264,11 @@ fn show_strange() {
         &answers::STRANGE_COSINES,
         &answers::STRANGE_SINES,
         &answers::STRANGE_ENDED,
-    );
+    )
 }
 
 // Products that overflow unless the sum is halved before them.
-fn show_large() {
+fn show_large(stdout: Stdout) -> Result<()> {
     let mut weights = [0.0; 3];
     let mut latitudes = [0.0; 6];
     let mut s = [0.0; 9];
@@ -253,6 +278,7 @@ fn show_large() {
     replay::load(&answers::LARGE_S, 0, &mut s);
     replay::load(&answers::LARGE_C, 0, &mut c);
     show_matrix(
+        stdout,
         1,
         &weights,
         &latitudes,
@@ -260,8 +286,9 @@ fn show_large() {
         &s,
         &c,
         &answers::LARGE_MATRIX,
-    );
+    )?;
     show_functions(
+        stdout,
         1,
         &weights,
         &latitudes,
@@ -272,11 +299,11 @@ fn show_large() {
         &answers::LARGE_COSINES,
         &answers::LARGE_SINES,
         &answers::LARGE_ENDED,
-    );
+    )
 }
 
 // An integral that is none, of one node.
-fn show_none() {
+fn show_none(stdout: Stdout) -> Result<()> {
     let mut weights = [0.0; 1];
     let mut latitudes = [0.0; 2];
     let mut s = [0.0; 3];
@@ -286,6 +313,7 @@ fn show_none() {
     replay::load(&answers::NONE_S, 0, &mut s);
     replay::load(&answers::NONE_C, 0, &mut c);
     show_matrix(
+        stdout,
         1,
         &weights,
         &latitudes,
@@ -293,8 +321,9 @@ fn show_none() {
         &s,
         &c,
         &answers::NONE_MATRIX,
-    );
+    )?;
     show_functions(
+        stdout,
         1,
         &weights,
         &latitudes,
@@ -305,11 +334,11 @@ fn show_none() {
         &answers::NONE_COSINES,
         &answers::NONE_SINES,
         &answers::NONE_ENDED,
-    );
+    )
 }
 
 // Degree 5, of two nodes: the front of the answer.
-fn show_of_5() {
+fn show_of_5(stdout: Stdout) -> Result<()> {
     let mut weights = [0.0; 2];
     let mut latitudes = [0.0; 4];
     let mut s = [0.0; 22];
@@ -319,6 +348,7 @@ fn show_of_5() {
     replay::load(&answers::OF_5_S, 0, &mut s);
     replay::load(&answers::OF_5_C, 0, &mut c);
     show_matrix(
+        stdout,
         5,
         &weights,
         &latitudes,
@@ -326,8 +356,9 @@ fn show_of_5() {
         &s,
         &c,
         &answers::OF_5_MATRIX,
-    );
+    )?;
     show_functions(
+        stdout,
         5,
         &weights,
         &latitudes,
@@ -338,11 +369,11 @@ fn show_of_5() {
         &answers::OF_5_COSINES,
         &answers::OF_5_SINES,
         &answers::OF_5_ENDED,
-    );
+    )
 }
 
 // Degree 5, of one node of a subnormal weight: the iteration does not settle.
-fn show_faint() {
+fn show_faint(stdout: Stdout) -> Result<()> {
     let mut weights = [0.0; 1];
     let mut latitudes = [0.0; 2];
     let mut s = [0.0; 11];
@@ -352,6 +383,7 @@ fn show_faint() {
     replay::load(&answers::FAINT_S, 0, &mut s);
     replay::load(&answers::FAINT_C, 0, &mut c);
     show_matrix(
+        stdout,
         5,
         &weights,
         &latitudes,
@@ -359,8 +391,9 @@ fn show_faint() {
         &s,
         &c,
         &answers::FAINT_MATRIX,
-    );
+    )?;
     show_functions(
+        stdout,
         5,
         &weights,
         &latitudes,
@@ -371,7 +404,7 @@ fn show_faint() {
         &answers::FAINT_COSINES,
         &answers::FAINT_SINES,
         &answers::FAINT_ENDED,
-    );
+    )
 }
 
 // Degree 1, with these lists to be written: the refusal's number. That it leaves the two numbers of the solver alone is replayed with the refusals.
@@ -410,7 +443,7 @@ fn refusal_of_1(
 }
 
 // One number too few in each of them, and then just enough.
-fn show_short() {
+fn show_short(stdout: Stdout) -> Result<()> {
     let mut work = [0.0; 93];
     let mut concentrations = [0.0; 4];
     let mut cs = [0.0; 12];
@@ -423,25 +456,26 @@ fn show_short() {
     let of_cosines = refusal_of_1(&mut work, &mut concentrations, &mut numbers_short, &mut ss);
     let of_sines = refusal_of_1(&mut work, &mut concentrations, &mut cs, &mut numbers_short);
     let numbers = [of_work, of_concentrations, of_cosines, of_sines];
-    show_words(b"region, SPACE ", &numbers, &[3, 3, 3, 3], 0);
+    show_words(stdout, b"region, SPACE ", &numbers, &[3, 3, 3, 3], 0)?;
     show(
+        stdout,
         b"region, SPACE, concentrations ",
         &concentrations,
         &[0; 4],
         0,
-    );
+    )?;
     let enough = refusal_of_1(&mut work, &mut concentrations, &mut cs, &mut ss);
-    show_words(b"region, just enough ", &[enough], &[0], 0);
+    show_words(stdout, b"region, just enough ", &[enough], &[0], 0)
 }
 
-pub fn show_values() {
-    show_of_0();
-    show_of_1();
-    show_of_2();
-    show_strange();
-    show_large();
-    show_none();
-    show_faint();
-    show_of_5();
-    show_short();
+pub fn show_values(stdout: Stdout) -> Result<()> {
+    show_of_0(stdout)?;
+    show_of_1(stdout)?;
+    show_of_2(stdout)?;
+    show_strange(stdout)?;
+    show_large(stdout)?;
+    show_none(stdout)?;
+    show_faint(stdout)?;
+    show_of_5(stdout)?;
+    show_short(stdout)
 }

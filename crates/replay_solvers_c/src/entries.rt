@@ -7,6 +7,7 @@ use geopotential::lists::geopotential_polar_cap_lengths;
 use geopotential::matrices::{geopotential_householder_ql, geopotential_symmetric_eigen};
 use replay_cases::MARK;
 use replay_print::{show, show_words};
+use std::io::{Result, Stdout};
 
 // What stands before a call in the numbers and in the list of lengths that are lent.
 const MARK_NUMBER: u32 = 1234;
@@ -14,7 +15,7 @@ const MARK_NUMBER: u32 = 1234;
 const MARK_LENGTH: usize = 1234;
 
 // A matrix of up to three rows, with places behind its values and its vectors.
-fn show_rotations(n: usize, a: &[f64], due: &[u64; 17]) {
+fn show_rotations(stdout: Stdout, n: usize, a: &[f64], due: &[u64; 17]) -> Result<()> {
     let mut work = [MARK; 21];
     let mut values = [MARK; 4];
     let mut vectors = [MARK; 10];
@@ -30,16 +31,17 @@ fn show_rotations(n: usize, a: &[f64], due: &[u64; 17]) {
         &mut count,
     );
     show_words(
+        stdout,
         b"symmetric_eigen, refusal, settled, count ",
         &[number as u64, settled as u64, count as u64],
         due,
         0,
-    );
-    show(b"symmetric_eigen, values ", &values, due, 3);
-    show(b"symmetric_eigen, vectors ", &vectors, due, 7);
+    )?;
+    show(stdout, b"symmetric_eigen, values ", &values, due, 3)?;
+    show(stdout, b"symmetric_eigen, vectors ", &vectors, due, 7)
 }
 
-fn show_reflections(n: usize, a: &[f64], due: &[u64; 17]) {
+fn show_reflections(stdout: Stdout, n: usize, a: &[f64], due: &[u64; 17]) -> Result<()> {
     let mut work = [MARK; 21];
     let mut values = [MARK; 4];
     let mut vectors = [MARK; 10];
@@ -55,54 +57,103 @@ fn show_reflections(n: usize, a: &[f64], due: &[u64; 17]) {
         &mut count,
     );
     show_words(
+        stdout,
         b"householder_ql, refusal, settled, count ",
         &[number as u64, settled as u64, count as u64],
         due,
         0,
-    );
-    show(b"householder_ql, values ", &values, due, 3);
-    show(b"householder_ql, vectors ", &vectors, due, 7);
+    )?;
+    show(stdout, b"householder_ql, values ", &values, due, 3)?;
+    show(stdout, b"householder_ql, vectors ", &vectors, due, 7)
 }
 
 // A matrix whose squares overflow, one that the rotations don't settle, an ordinary one, one that the iteration does not settle, and a number too few.
-fn show_all_rotations(tiny: &[f64; 9]) {
+fn show_all_rotations(stdout: Stdout, tiny: &[f64; 9]) -> Result<()> {
     show_rotations(
+        stdout,
         2,
         &[1.0, 1e200, 1e200, 1.0],
         &answers::SYMMETRIC_EIGEN_LARGE,
-    );
-    show_rotations(2, &[0.0, 1.0, 0.0, 0.0], &answers::SYMMETRIC_EIGEN_UPPER);
-    show_rotations(2, &[2.0, 1.0, 1.0, 2.0], &answers::SYMMETRIC_EIGEN_ORDINARY);
-    show_rotations(3, tiny, &answers::SYMMETRIC_EIGEN_TINY);
-    show_rotations(2, &[2.0, 1.0, 1.0], &answers::SYMMETRIC_EIGEN_REFUSED);
+    )?;
+    show_rotations(
+        stdout,
+        2,
+        &[0.0, 1.0, 0.0, 0.0],
+        &answers::SYMMETRIC_EIGEN_UPPER,
+    )?;
+    show_rotations(
+        stdout,
+        2,
+        &[2.0, 1.0, 1.0, 2.0],
+        &answers::SYMMETRIC_EIGEN_ORDINARY,
+    )?;
+    show_rotations(stdout, 3, tiny, &answers::SYMMETRIC_EIGEN_TINY)?;
+    show_rotations(
+        stdout,
+        2,
+        &[2.0, 1.0, 1.0],
+        &answers::SYMMETRIC_EIGEN_REFUSED,
+    )
 }
 
-fn show_all_reflections(tiny: &[f64; 9]) {
-    show_reflections(2, &[1.0, 1e200, 1e200, 1.0], &answers::HOUSEHOLDER_QL_LARGE);
-    show_reflections(2, &[0.0, 1.0, 0.0, 0.0], &answers::HOUSEHOLDER_QL_UPPER);
-    show_reflections(2, &[2.0, 1.0, 1.0, 2.0], &answers::HOUSEHOLDER_QL_ORDINARY);
-    show_reflections(3, tiny, &answers::HOUSEHOLDER_QL_TINY);
-    show_reflections(2, &[2.0, 1.0, 1.0], &answers::HOUSEHOLDER_QL_REFUSED);
+fn show_all_reflections(stdout: Stdout, tiny: &[f64; 9]) -> Result<()> {
+    show_reflections(
+        stdout,
+        2,
+        &[1.0, 1e200, 1e200, 1.0],
+        &answers::HOUSEHOLDER_QL_LARGE,
+    )?;
+    show_reflections(
+        stdout,
+        2,
+        &[0.0, 1.0, 0.0, 0.0],
+        &answers::HOUSEHOLDER_QL_UPPER,
+    )?;
+    show_reflections(
+        stdout,
+        2,
+        &[2.0, 1.0, 1.0, 2.0],
+        &answers::HOUSEHOLDER_QL_ORDINARY,
+    )?;
+    show_reflections(stdout, 3, tiny, &answers::HOUSEHOLDER_QL_TINY)?;
+    show_reflections(
+        stdout,
+        2,
+        &[2.0, 1.0, 1.0],
+        &answers::HOUSEHOLDER_QL_REFUSED,
+    )
 }
 
-fn show_solvers() {
+fn show_solvers(stdout: Stdout) -> Result<()> {
     let mut tiny = [0.0; 9];
     replay::load(&answers::TINY, 0, &mut tiny);
-    show_all_rotations(&tiny);
-    show_all_reflections(&tiny);
+    show_all_rotations(stdout, &tiny)?;
+    show_all_reflections(stdout, &tiny)
 }
 
 // The functions of a cap behind the refusal's number.
-fn show_ranked(orders: &[f64; 4], concentrations: &[f64; 4], vectors: &[f64; 6], due: &[u64])
+fn show_ranked(
+    stdout: Stdout,
+    orders: &[f64; 4],
+    concentrations: &[f64; 4],
+    vectors: &[f64; 6],
+    due: &[u64],
+) -> Result<()>
     requires { 15 ≤ length due.now }
 {
-    show(b"polar_cap, orders ", orders, due, 1);
-    show(b"polar_cap, concentrations ", concentrations, due, 5);
-    show(b"polar_cap, vectors ", vectors, due, 9);
+    show(stdout, b"polar_cap, orders ", orders, due, 1)?;
+    show(
+        stdout,
+        b"polar_cap, concentrations ",
+        concentrations,
+        due,
+        5,
+    )?;
+    show(stdout, b"polar_cap, vectors ", vectors, due, 9)
 }
 
 // A cap of degree 1, with one place behind each output but the last, which is lent.
-fn show_cap(cosine: f64, settled: &mut [f64], due: &[u64])
+fn show_cap(stdout: Stdout, cosine: f64, settled: &mut [f64], due: &[u64]) -> Result<()>
     requires { 15 + length settled.old ≤ length due.now }
 {
     let weights = [1.0, 0.5];
@@ -122,23 +173,30 @@ fn show_cap(cosine: f64, settled: &mut [f64], due: &[u64])
         &mut vectors,
         settled,
     );
-    show_words(b"polar_cap, refusal ", &[number as u64], due, 0);
-    show_ranked(&orders, &concentrations, &vectors, due);
-    show(b"polar_cap, settled and counts ", settled, due, 15);
+    show_words(stdout, b"polar_cap, refusal ", &[number as u64], due, 0)?;
+    show_ranked(stdout, &orders, &concentrations, &vectors, due)?;
+    show(stdout, b"polar_cap, settled and counts ", settled, due, 15)
 }
 
 // One that settles, one whose order 0 does not (its cosine is infinite), and one with a place too few.
-fn show_caps() {
+fn show_caps(stdout: Stdout) -> Result<()> {
     let mut settled = [MARK; 5];
-    show_cap(0.25, &mut settled, &answers::CAP);
+    show_cap(stdout, 0.25, &mut settled, &answers::CAP)?;
     let mut partly = [MARK; 5];
-    show_cap(1.0 / 0.0, &mut partly, &answers::CAP_INFINITE);
+    show_cap(stdout, 1.0 / 0.0, &mut partly, &answers::CAP_INFINITE)?;
     let mut short = [MARK; 3];
-    show_cap(0.25, &mut short, &answers::CAP_REFUSED);
+    show_cap(stdout, 0.25, &mut short, &answers::CAP_REFUSED)
 }
 
 // How the solver ended for each order of a cap of degree 32 at most, whose weights and pairs are lent.
-fn show_long_cap(lmax: usize, cosine: f64, weights: &[f64], latitudes: &[f64], due: &[u64; 66]) {
+fn show_long_cap(
+    stdout: Stdout,
+    lmax: usize,
+    cosine: f64,
+    weights: &[f64],
+    latitudes: &[f64],
+    due: &[u64; 66],
+) -> Result<()> {
     let mut work = [MARK; 19855];
     let mut orders = [MARK; 561];
     let mut concentrations = [MARK; 561];
@@ -155,23 +213,24 @@ fn show_long_cap(lmax: usize, cosine: f64, weights: &[f64], latitudes: &[f64], d
         &mut vectors,
         &mut settled,
     );
-    show_words(b"polar_cap, refusal ", &[number as u64], &[0], 0);
-    show(b"polar_cap, settled and counts ", &settled, due, 0);
+    show_words(stdout, b"polar_cap, refusal ", &[number as u64], &[0], 0)?;
+    show(stdout, b"polar_cap, settled and counts ", &settled, due, 0)
 }
 
-fn show_long_caps() {
+fn show_long_caps(stdout: Stdout) -> Result<()> {
     show_long_cap(
+        stdout,
         16,
         1.0 / 0.0,
         &[0.5; 17],
         &[0.5; 34],
         &answers::CAP_16_INFINITE,
-    );
-    show_long_cap(32, 0.5, &[0.5; 33], &[0.5; 66], &answers::CAP_32);
+    )?;
+    show_long_cap(stdout, 32, 0.5, &[0.5; 33], &[0.5; 66], &answers::CAP_32)
 }
 
 // What is told of its lists, with a place behind the lengths.
-fn show_lengths(name: &[u8], lmax: usize, due: &[u64; 9])
+fn show_lengths(stdout: Stdout, name: &[u8], lmax: usize, due: &[u64; 9]) -> Result<()>
     requires { length name.now ≤ 80 }
 {
     let mut l = [MARK_LENGTH; 8];
@@ -187,11 +246,11 @@ fn show_lengths(name: &[u8], lmax: usize, due: &[u64; 9])
         l[6] as u64,
         l[7] as u64,
     ];
-    show_words(name, &told, due, 0);
+    show_words(stdout, name, &told, due, 0)
 }
 
 // With one too few.
-fn show_lengths_short() {
+fn show_lengths_short(stdout: Stdout) -> Result<()> {
     let mut l = [MARK_LENGTH; 6];
     let number = geopotential_polar_cap_lengths(2, &mut l);
     let told = [
@@ -204,22 +263,24 @@ fn show_lengths_short() {
         l[5] as u64,
     ];
     show_words(
+        stdout,
         b"polar_cap_lengths, SPACE ",
         &told,
         &answers::CAP_LENGTHS_SHORT,
         0,
-    );
+    )
 }
 
-pub fn show_ended() {
-    show_solvers();
-    show_caps();
-    show_long_caps();
-    show_lengths(b"polar_cap_lengths ", 2, &answers::CAP_LENGTHS);
+pub fn show_ended(stdout: Stdout) -> Result<()> {
+    show_solvers(stdout)?;
+    show_caps(stdout)?;
+    show_long_caps(stdout)?;
+    show_lengths(stdout, b"polar_cap_lengths ", 2, &answers::CAP_LENGTHS)?;
     show_lengths(
+        stdout,
         b"polar_cap_lengths, 181 ",
         181,
         &answers::CAP_LENGTHS_BEYOND,
-    );
-    show_lengths_short();
+    )?;
+    show_lengths_short(stdout)
 }

@@ -5,7 +5,10 @@
 mod answers;
 mod entries;
 
-fn main() {
-    replay_cases::control();
-    entries::show_ended();
+use std::io::Result;
+
+fn main(rt: HostRuntime) -> Result<()> {
+    let stdout = rt.stdout();
+    replay_cases::control(stdout)?;
+    entries::show_ended(stdout)
 }

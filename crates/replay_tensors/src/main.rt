@@ -12,6 +12,7 @@ use local::{Partials, SecondPartials, SecondPoint};
 use number::number_of_bits;
 use refusal::Answer;
 use replay_print::show;
+use std::io::{Result, Stdout};
 
 fn head_of(nmax: usize) -> Head {
     Head {
@@ -97,16 +98,24 @@ fn second_at(
 }
 
 // The numbers at point i and their tensor there; those due stand at place k of the lists.
-fn show_both(i: usize, at: SecondPartials, k: usize, numbers: &[u64], tensors: &[u64])
+fn show_both(
+    stdout: Stdout,
+    i: usize,
+    at: SecondPartials,
+    k: usize,
+    numbers: &[u64],
+    tensors: &[u64],
+) -> Result<()>
     requires { (i < 6) × ((10 * k + 10 ≤ length numbers.now) × ((9 * k + 9 ≤ length tensors.now) × (k < 6))) }
 {
-    show(b"second_partials ", &ten(at), numbers, 10 * k);
+    show(stdout, b"second_partials ", &ten(at), numbers, 10 * k)?;
     let r = number_of_bits(answers::RADII[i]);
     let tensor = at.tensor_neu(r, latitude_of(i));
-    show(b"tensor_neu ", &nine(tensor), tensors, 9 * k);
+    show(stdout, b"tensor_neu ", &nine(tensor), tensors, 9 * k)
 }
 
 fn show_point(
+    stdout: Stdout,
     i: usize,
     nmax: usize,
     pairs: usize,
@@ -114,38 +123,45 @@ fn show_point(
     sbits: &[u64; 15],
     numbers: &[u64; 60],
     tensors: &[u64; 54],
-)
+) -> Result<()>
     requires { (i < 6) × ((nmax ≤ 4) × (pairs ≤ 15)) }
 {
     match second_at(i, nmax, pairs, cbits, sbits) {
-        SecondPoint::At(at) => show_both(i, at, i, numbers, tensors),
+        SecondPoint::At(at) => show_both(stdout, i, at, i, numbers, tensors)?,
         SecondPoint::Refused(_) => {
-            io::write_all(1, b"second_partials refused\n");
+            replay_print::print(stdout, b"second_partials refused\n")?;
         }
     }
+    Ok(())
 }
 
 // Every point of a field by itself.
 fn show_points(
+    stdout: Stdout,
     nmax: usize,
     pairs: usize,
     cbits: &[u64; 15],
     sbits: &[u64; 15],
     numbers: &[u64; 60],
     tensors: &[u64; 54],
-)
+) -> Result<()>
     requires { (nmax ≤ 4) × (pairs ≤ 15) }
 {
-    show_point(0, nmax, pairs, cbits, sbits, numbers, tensors);
-    show_point(1, nmax, pairs, cbits, sbits, numbers, tensors);
-    show_point(2, nmax, pairs, cbits, sbits, numbers, tensors);
-    show_point(3, nmax, pairs, cbits, sbits, numbers, tensors);
-    show_point(4, nmax, pairs, cbits, sbits, numbers, tensors);
-    show_point(5, nmax, pairs, cbits, sbits, numbers, tensors);
+    show_point(stdout, 0, nmax, pairs, cbits, sbits, numbers, tensors)?;
+    show_point(stdout, 1, nmax, pairs, cbits, sbits, numbers, tensors)?;
+    show_point(stdout, 2, nmax, pairs, cbits, sbits, numbers, tensors)?;
+    show_point(stdout, 3, nmax, pairs, cbits, sbits, numbers, tensors)?;
+    show_point(stdout, 4, nmax, pairs, cbits, sbits, numbers, tensors)?;
+    show_point(stdout, 5, nmax, pairs, cbits, sbits, numbers, tensors)
 }
 
 // All points of a field of degree 4 at once.
-fn show_along(cbits: &[u64; 15], sbits: &[u64; 15], numbers: &[u64; 60]) {
+fn show_along(
+    stdout: Stdout,
+    cbits: &[u64; 15],
+    sbits: &[u64; 15],
+    numbers: &[u64; 60],
+) -> Result<()> {
     let mut c = [0.0; 15];
     let mut s = [0.0; 15];
     let mut radii = [0.0; 6];
@@ -169,11 +185,12 @@ fn show_along(cbits: &[u64; 15], sbits: &[u64; 15], numbers: &[u64; 60]) {
         &mut work,
         &mut out,
     ) {
-        Answer::Done => show(b"second_partials_along ", &out, numbers, 0),
+        Answer::Done => show(stdout, b"second_partials_along ", &out, numbers, 0)?,
         Answer::Refused(_) => {
-            io::write_all(1, b"second_partials_along refused\n");
+            replay_print::print(stdout, b"second_partials_along refused\n")?;
         }
     }
+    Ok(())
 }
 
 // Point i of a field of degree 130.
@@ -189,21 +206,29 @@ fn large_at(i: usize) -> SecondPoint
     second_partials::second_partials(head_of(130), &c, &s, r, latitude, &trig, &mut work)
 }
 
-fn show_large(i: usize, k: usize)
+fn show_large(stdout: Stdout, i: usize, k: usize) -> Result<()>
     requires { (i < 6) × (k < 2) }
 {
     match large_at(i) {
         SecondPoint::At(at) => {
-            show_both(i, at, k, &answers::LARGE_SECOND, &answers::LARGE_TENSOR)
+            show_both(
+                stdout,
+                i,
+                at,
+                k,
+                &answers::LARGE_SECOND,
+                &answers::LARGE_TENSOR,
+            )?
         }
         SecondPoint::Refused(_) => {
-            io::write_all(1, b"second_partials refused\n");
+            replay_print::print(stdout, b"second_partials refused\n")?;
         }
     }
+    Ok(())
 }
 
 // The tensor of ten numbers that no field makes, at place i.
-fn show_tensor(i: usize)
+fn show_tensor(stdout: Stdout, i: usize) -> Result<()>
     requires { i < 6 }
 {
     let mut x = [0.0; 10];
@@ -230,55 +255,91 @@ fn show_tensor(i: usize)
     };
     let tensor = at.tensor_neu(place[0], latitude);
     show(
+        stdout,
         b"tensor_neu of any numbers ",
         &nine(tensor),
         &answers::TENSORS,
         9 * i,
-    );
+    )
 }
 
-fn ordinary() {
+fn ordinary(stdout: Stdout) -> Result<()> {
     let c = answers::C;
     let s = answers::S;
-    show_points(0, 1, &c, &s, &answers::OF_0_SECOND, &answers::OF_0_TENSOR);
-    show_points(1, 3, &c, &s, &answers::OF_1_SECOND, &answers::OF_1_TENSOR);
-    show_points(2, 6, &c, &s, &answers::OF_2_SECOND, &answers::OF_2_TENSOR);
-    show_points(4, 15, &c, &s, &answers::OF_4_SECOND, &answers::OF_4_TENSOR);
-    show_along(&c, &s, &answers::OF_4_SECOND);
+    show_points(
+        stdout,
+        0,
+        1,
+        &c,
+        &s,
+        &answers::OF_0_SECOND,
+        &answers::OF_0_TENSOR,
+    )?;
+    show_points(
+        stdout,
+        1,
+        3,
+        &c,
+        &s,
+        &answers::OF_1_SECOND,
+        &answers::OF_1_TENSOR,
+    )?;
+    show_points(
+        stdout,
+        2,
+        6,
+        &c,
+        &s,
+        &answers::OF_2_SECOND,
+        &answers::OF_2_TENSOR,
+    )?;
+    show_points(
+        stdout,
+        4,
+        15,
+        &c,
+        &s,
+        &answers::OF_4_SECOND,
+        &answers::OF_4_TENSOR,
+    )?;
+    show_along(stdout, &c, &s, &answers::OF_4_SECOND)
 }
 
-fn special() {
+fn special(stdout: Stdout) -> Result<()> {
     let c = answers::SPECIAL_C;
     let s = answers::SPECIAL_S;
     show_points(
+        stdout,
         2,
         6,
         &c,
         &s,
         &answers::SPECIAL_OF_2_SECOND,
         &answers::SPECIAL_OF_2_TENSOR,
-    );
+    )?;
     show_points(
+        stdout,
         4,
         15,
         &c,
         &s,
         &answers::SPECIAL_OF_4_SECOND,
         &answers::SPECIAL_OF_4_TENSOR,
-    );
-    show_along(&c, &s, &answers::SPECIAL_OF_4_SECOND);
+    )?;
+    show_along(stdout, &c, &s, &answers::SPECIAL_OF_4_SECOND)
 }
 
-fn main() {
-    replay_print::control();
-    ordinary();
-    special();
-    show_tensor(0);
-    show_tensor(1);
-    show_tensor(2);
-    show_tensor(3);
-    show_tensor(4);
-    show_tensor(5);
-    show_large(0, 0);
-    show_large(2, 1);
+fn main(rt: HostRuntime) -> Result<()> {
+    let stdout = rt.stdout();
+    replay_print::control(stdout)?;
+    ordinary(stdout)?;
+    special(stdout)?;
+    show_tensor(stdout, 0)?;
+    show_tensor(stdout, 1)?;
+    show_tensor(stdout, 2)?;
+    show_tensor(stdout, 3)?;
+    show_tensor(stdout, 4)?;
+    show_tensor(stdout, 5)?;
+    show_large(stdout, 0, 0)?;
+    show_large(stdout, 2, 1)
 }

@@ -8,10 +8,13 @@ mod tensors;
 mod told;
 mod values;
 
-fn main() {
-    replay_cases::control();
-    values::show_values();
-    told::show_told();
-    tensors::show_tensors();
-    tables::show_tables();
+use std::io::Result;
+
+fn main(rt: HostRuntime) -> Result<()> {
+    let stdout = rt.stdout();
+    replay_cases::control(stdout)?;
+    values::show_values(stdout)?;
+    told::show_told(stdout)?;
+    tensors::show_tensors(stdout)?;
+    tables::show_tables(stdout)
 }

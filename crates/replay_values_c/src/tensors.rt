@@ -10,9 +10,10 @@ use geopotential::tensors::{
 };
 use replay_cases::{MARK, print_line};
 use replay_print::show;
+use std::io::{Result, Stdout};
 
 // A point of a field of degree 1, in a list with one place behind its numbers; of a refusal there is no line.
-fn show_point() {
+fn show_point(stdout: Stdout) -> Result<()> {
     let mut work = [0.0; 15];
     let mut out = [MARK; 11];
     let number = geopotential_second_partials(
@@ -30,16 +31,18 @@ fn show_point() {
     );
     if number == 0 {
         show(
+            stdout,
             b"second_partials, values ",
             &out,
             &answers::SECOND_PARTIALS,
             0,
-        );
+        )?;
     }
+    Ok(())
 }
 
 // The same point and another.
-fn show_along() {
+fn show_along(stdout: Stdout) -> Result<()> {
     let mut work = [0.0; 15];
     let mut out = [MARK; 21];
     let number = geopotential_second_partials_along(
@@ -57,16 +60,18 @@ fn show_along() {
     );
     if number == 0 {
         show(
+            stdout,
             b"second_partials_along, values ",
             &out,
             &answers::SECOND_PARTIALS_ALONG,
             0,
-        );
+        )?;
     }
+    Ok(())
 }
 
 // The tensor of the numbers due of the first point.
-fn show_tensor() {
+fn show_tensor(stdout: Stdout) -> Result<()> {
     let mut x = [0.0; 10];
     replay::load(&answers::SECOND_PARTIALS, 0, &mut x);
     let mut out = [MARK; 10];
@@ -74,8 +79,15 @@ fn show_tensor() {
         x[0], x[1], x[2], x[3], x[4], x[5], x[6], x[7], x[8], x[9], 8.0, 0.6, 0.8, &mut out,
     );
     if number == 0 {
-        show(b"tensor_neu, values ", &out, &answers::TENSOR_NEU, 0);
+        show(
+            stdout,
+            b"tensor_neu, values ",
+            &out,
+            &answers::TENSOR_NEU,
+            0,
+        )?;
     }
+    Ok(())
 }
 
 // What is told of the lists for a point, with a place behind the lengths, and then with one too few.
@@ -105,31 +117,35 @@ fn of_point_short() -> [u64; 5] {
     ]
 }
 
-fn show_point_lengths() {
+fn show_point_lengths(stdout: Stdout) -> Result<()> {
     let small = of_point(3);
     print_line(
+        stdout,
         b"second_partials_lengths ",
         &small,
         &answers::SECOND_LENGTHS,
-    );
+    )?;
     let large = of_point(2700);
     print_line(
+        stdout,
         b"second_partials_lengths, 2700 ",
         &large,
         &answers::SECOND_LENGTHS_LARGE,
-    );
+    )?;
     let beyond = of_point(2701);
     print_line(
+        stdout,
         b"second_partials_lengths, 2701 ",
         &beyond,
         &answers::SECOND_LENGTHS_BEYOND,
-    );
+    )?;
     let short = of_point_short();
     print_line(
+        stdout,
         b"second_partials_lengths, SPACE ",
         &short,
         &answers::SECOND_LENGTHS_SHORT,
-    );
+    )
 }
 
 // Of those for many points.
@@ -163,59 +179,70 @@ fn of_points_short() -> [u64; 7] {
     ]
 }
 
-fn show_along_lengths() {
+fn show_along_lengths(stdout: Stdout) -> Result<()> {
     let small = of_points(3, 2);
     print_line(
+        stdout,
         b"second_partials_along_lengths ",
         &small,
         &answers::ALONG_LENGTHS,
-    );
+    )?;
     let large = of_points(2700, 65535);
     print_line(
+        stdout,
         b"second_partials_along_lengths, 2700 ",
         &large,
         &answers::ALONG_LENGTHS_LARGE,
-    );
+    )?;
     let beyond = of_points(2701, 2);
     print_line(
+        stdout,
         b"second_partials_along_lengths, 2701 ",
         &beyond,
         &answers::ALONG_LENGTHS_BEYOND,
-    );
+    )?;
     let many = of_points(3, 65536);
     print_line(
+        stdout,
         b"second_partials_along_lengths, 65536 ",
         &many,
         &answers::ALONG_LENGTHS_MANY,
-    );
+    )?;
     let short = of_points_short();
     print_line(
+        stdout,
         b"second_partials_along_lengths, SPACE ",
         &short,
         &answers::ALONG_LENGTHS_SHORT,
-    );
+    )
 }
 
 // Of the one for a tensor.
-fn show_tensor_lengths() {
+fn show_tensor_lengths(stdout: Stdout) -> Result<()> {
     let mut l = [MARK_LENGTH; 2];
     let number = geopotential_tensor_neu_lengths(&mut l);
     let told = [number as u64, l[0] as u64, l[1] as u64];
-    print_line(b"tensor_neu_lengths ", &told, &answers::TENSOR_LENGTHS);
+    print_line(
+        stdout,
+        b"tensor_neu_lengths ",
+        &told,
+        &answers::TENSOR_LENGTHS,
+    )?;
     let mut none = [MARK_LENGTH; 0];
     let short = [geopotential_tensor_neu_lengths(&mut none) as u64];
     print_line(
+        stdout,
         b"tensor_neu_lengths, SPACE ",
         &short,
         &answers::TENSOR_LENGTHS_SHORT,
-    );
+    )
 }
 
-pub fn show_tensors() {
-    show_point();
-    show_along();
-    show_tensor();
-    show_point_lengths();
-    show_along_lengths();
-    show_tensor_lengths();
+pub fn show_tensors(stdout: Stdout) -> Result<()> {
+    show_point(stdout)?;
+    show_along(stdout)?;
+    show_tensor(stdout)?;
+    show_point_lengths(stdout)?;
+    show_along_lengths(stdout)?;
+    show_tensor_lengths(stdout)
 }

@@ -8,6 +8,7 @@ use geopotential::models::{
 };
 use number::bits_of_number;
 use replay_cases::{MARK, MARK_BYTE, MARK_WORD, print_line};
+use std::io::{Result, Stdout};
 
 fn pair(number: u32, value: f64) -> [u64; 2] {
     [number as u64, bits_of_number(value)]
@@ -21,7 +22,7 @@ fn factor(functional: u32, love: &[f64]) -> [u64; 2] {
 }
 
 // Of each functional, and of the last two with one Love number too few.
-fn show_factors() {
+fn show_factors(stdout: Stdout) -> Result<()> {
     let love = [0.125, 0.25, 0.5, 0.75];
     let short = [0.125, 0.25, 0.5];
     let a = factor(0, &love);
@@ -36,7 +37,7 @@ fn show_factors() {
         a[0], a[1], b[0], b[1], c[0], c[1], d[0], d[1], e[0], e[1], f[0], f[1], g[0], g[1], h[0],
         h[1],
     ];
-    print_line(b"factor, values ", &words, &answers::FACTOR);
+    print_line(stdout, b"factor, values ", &words, &answers::FACTOR)
 }
 
 fn entry_c(n: usize, m: usize) -> [u64; 2] {
@@ -53,17 +54,27 @@ fn entry_s(n: usize, m: usize) -> [u64; 2] {
     pair(number, value)
 }
 
-fn show_entries() {
+fn show_entries(stdout: Stdout) -> Result<()> {
     let a = entry_c(1, 0);
     let b = entry_c(1, 2);
     let c = entry_c(2, 0);
     let words = [a[0], a[1], b[0], b[1], c[0], c[1]];
-    print_line(b"coefficient_c, values ", &words, &answers::COEFFICIENT_C);
+    print_line(
+        stdout,
+        b"coefficient_c, values ",
+        &words,
+        &answers::COEFFICIENT_C,
+    )?;
     let d = entry_s(1, 0);
     let e = entry_s(1, 2);
     let f = entry_s(2, 0);
     let other = [d[0], d[1], e[0], e[1], f[0], f[1]];
-    print_line(b"coefficient_s, values ", &other, &answers::COEFFICIENT_S);
+    print_line(
+        stdout,
+        b"coefficient_s, values ",
+        &other,
+        &answers::COEFFICIENT_S,
+    )
 }
 
 // c and s with an entry set.
@@ -82,17 +93,17 @@ fn set(n: usize, m: usize) -> [u64; 7] {
     ]
 }
 
-fn show_set() {
+fn show_set(stdout: Stdout) -> Result<()> {
     let a = set(1, 0);
     let b = set(1, 2);
     let words = [
         a[0], a[1], a[2], a[3], a[4], a[5], a[6], b[0], b[1], b[2], b[3], b[4], b[5], b[6],
     ];
-    print_line(b"set, values ", &words, &answers::SET);
+    print_line(stdout, b"set, values ", &words, &answers::SET)
 }
 
 // Zeros in lists with one place behind them.
-fn show_zeros() {
+fn show_zeros(stdout: Stdout) -> Result<()> {
     let mut c = [MARK; 4];
     let mut s = [MARK; 4];
     let number = geopotential_zeros(3.5, 7.25, 1, &mut c, &mut s);
@@ -107,7 +118,7 @@ fn show_zeros() {
         bits_of_number(s[2]),
         bits_of_number(s[3]),
     ];
-    print_line(b"zeros, values ", &words, &answers::ZEROS);
+    print_line(stdout, b"zeros, values ", &words, &answers::ZEROS)
 }
 
 // What is read of a file of degree 1: c, s and the head, each with one place behind it.
@@ -137,21 +148,26 @@ fn read(bytes: &[u8]) -> [u64; 16] {
 }
 
 // Of the file, of the same with a date, of one with a record of another kind, of one with a byte too many.
-fn show_read() {
+fn show_read(stdout: Stdout) -> Result<()> {
     let whole = read(&answers::FILE);
-    print_line(b"model_read, values ", &whole, &answers::READ);
+    print_line(stdout, b"model_read, values ", &whole, &answers::READ)?;
     let dated = read(&answers::DATED);
-    print_line(b"model_read, dated values ", &dated, &answers::READ_DATED);
+    print_line(
+        stdout,
+        b"model_read, dated values ",
+        &dated,
+        &answers::READ_DATED,
+    )?;
     let mut other = answers::FILE;
     other[20] = 3;
     let kind = read(&other);
-    print_line(b"model_read, KIND ", &kind, &answers::READ_KIND);
+    print_line(stdout, b"model_read, KIND ", &kind, &answers::READ_KIND)?;
     let long = read(&answers::LONG);
-    print_line(b"model_read, AFTER ", &long, &answers::READ_LONG);
+    print_line(stdout, b"model_read, AFTER ", &long, &answers::READ_LONG)
 }
 
 // What is read of the files that are written of the same numbers; the first has no date, whatever the day count.
-fn show_written() {
+fn show_written(stdout: Stdout) -> Result<()> {
     let mut out = [MARK_BYTE; 72];
     let mut long = [MARK_BYTE; 76];
     let c = [0x0102_0304_0506_0708, 1, 0xffff_ffff_ffff_ffff];
@@ -161,17 +177,22 @@ fn show_written() {
     let days = -1985229329;
     geopotential_model_write(gm, radius, 2, 0, days, 1, &c, &s, &mut out);
     let words = read(&out);
-    print_line(b"model_write, values ", &words, &answers::READ);
+    print_line(stdout, b"model_write, values ", &words, &answers::READ)?;
     geopotential_model_write(gm, radius, 2, 7, days, 1, &c, &s, &mut long);
     let dated = read(&long);
-    print_line(b"model_write, dated values ", &dated, &answers::READ_DATED);
+    print_line(
+        stdout,
+        b"model_write, dated values ",
+        &dated,
+        &answers::READ_DATED,
+    )
 }
 
-pub fn show_values() {
-    show_factors();
-    show_entries();
-    show_set();
-    show_zeros();
-    show_read();
-    show_written();
+pub fn show_values(stdout: Stdout) -> Result<()> {
+    show_factors(stdout)?;
+    show_entries(stdout)?;
+    show_set(stdout)?;
+    show_zeros(stdout)?;
+    show_read(stdout)?;
+    show_written(stdout)
 }

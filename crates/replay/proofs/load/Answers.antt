@@ -1,0 +1,20 @@
+-- `load` meets its contract: the first i numbers are written. Assumes nothing.
+use borrow.Author.Rules.{rules}
+use native.Mathlib.Nat.{zero-add}
+use native.Mathlib.Omega.{arith}
+use mathlib.Core.Path.{◌≡◌, refl, sym, ap, ◌∙◌}
+use Prim.Native.Nat.{◌-◌, ◌≤◌}
+use lib.ListN.{length}
+use Rattle.storage.specs.Filled.{Filled, filled_none, filled_more, filled_to}
+use Rattle.replay.specs.Answers.{number_at}
+use Rattle.replay.proofs.load.Goals as goal
+
+pub loop-i-init : goal.loop-i-init
+loop-i-init c = (omega arith, filled_none)
+
+pub loop-i-preserved : goal.loop-i-preserved
+unfolding number_at
+loop-i-preserved c = (omega arith, filled_more c.loop-i.invariant.1 (sym (zero-add _)) c.number_of_bits.ensures)
+
+pub returns : goal.returns
+returns c = filled_to c.loop-i.invariant.1 (omega arith)

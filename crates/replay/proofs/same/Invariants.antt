@@ -1,0 +1,15 @@
+-- `same` meets its contract: the sum so far counts the first i numbers. Assumes nothing.
+use borrow.Author.Rules.{rules}
+use native.Mathlib.Omega.{arith}
+use mathlib.Core.Path.{◌≡◌, sym, ap, ◌∙◌}
+use Prim.Native.Nat.{◌+◌, ◌-◌, ◌≤◌}
+use lib.ListN.{length}
+use Rattle.storage.specs.Fold.{fold_left, fold_none, fold_more}
+use Rattle.replay.specs.Answers.{agrees_at}
+use Rattle.replay.proofs.same.Given as goal
+
+abbrev pub invariant-loop-i : goal.invariant-loop-i
+invariant-loop-i l = (l.i ≤ length l.list) × (l.right ≤ l.i) × (l.right ≡ fold_left ◌+◌ (agrees_at l.list l.words l.at) 0 l.i)
+
+abbrev pub decreases-loop-i : goal.decreases-loop-i
+decreases-loop-i l = length l.list - l.i
