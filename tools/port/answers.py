@@ -36,7 +36,7 @@ def signatures(root):
                 kind = m.group(1) + "::"
             if line.startswith("}"):
                 kind = ""
-            m = re.match(r"\s*(?:pub |unsafe |const |extern \"C\" )*fn (\w+)", line)
+            m = re.match(r"\s*(?:pub(?:\(\w+\))? |unsafe |const |extern \"C\" )*fn (\w+)", line)
             if m:
                 key = f"{crate}::{mod}{kind}{m.group(1)}"
                 found[key] = {"requires": [], "ensures": []}
@@ -216,19 +216,26 @@ class Function:
         if rest and rest[0] == "ensures":
             sig = lookup(self.found, self.callee.get(at))
             rest = ["ensures"] + by_name(rest[1:], sig and sig["ensures"])
-        if rest and rest[0] == "new" and len(rest) > 1 and rest[1] in "01":
+        if rest and rest[0] in ("new", "auto") and len(rest) > 1 and rest[1] in "01":
             params = self.d["params"].get(self.callee.get(at)) or []
             k = 0
             while k + 1 < len(rest) and rest[k + 1] == "1":
                 k += 1
             if k < len(params) and rest[k + 1 : k + 2] == ["0"]:
-                rest = ["new", params[k]] + rest[k + 2 :]
+                rest = [rest[0], params[k]] + rest[k + 2 :]
             else:
                 self.left.append(".".join(rest))
         return [new] + rest
 
     def paths(self, body, place):
         aliases = {"c": place}
+
+        def apart(m):
+            names = [it for it in re.split(r"[(),\s]+", m.group(1)) if it]
+            k = len(names) - 1
+            return "".join(f"let {n} = {m.group(2)}" + ".1" * j + ("" if j == k else ".0") + " in " for j, n in enumerate(names))
+
+        body = re.sub(r"let (\([^=\n]*\)) = (\w+(?:\.[^\s(){};,]+)*\.ensures) in ?", apart, body)
 
         def alias(m):
             if m.group(2) not in aliases:
@@ -285,6 +292,10 @@ class Function:
         body = TOKEN.sub(one, body)
         for mark, what in marks:
             body = body.replace(mark, what)
+        # a step that only the check names has gone into the arm above it
+        for m in list(re.finditer(r"\s*let (\S+) = c\.[^\s.]+-\d+ in(?=\s)", body)):
+            if not re.search(r"(?<![\w.'-])" + re.escape(m.group(1)) + r"(?![\w'-])", body.replace(m.group(0), "", 1)):
+                body = body.replace(m.group(0), "", 1)
         return body
 
     def several(self, goal):
@@ -305,12 +316,18 @@ class Function:
         if not names or len(names) < 2:
             return body
         i = tuple_at_end(body)
-        last = re.search(r"(?:^|\n\s*| in )(omega (?:arith|\([^\n]*\)))\s*$", body)
+        last = re.search(r"(?:^\s*|\n\s*| in )(omega (?:arith|\([^\n]*\)))\s*$", body)
         if i is None and last:
             return body[: last.start(1)] + "record { " + "; ".join(f"{n} = {last.group(1)}" for n in names) + " }"
         if i is None:
-            self.left.append(f"clauses of {goal}")
-            return body
+            # a lemma whose type is a product
+            m = re.match(r"((?:\s*let [^\n]*? in(?=\n)|\s*let [^\n]*? in(?= (?!.* in\b)))*)\s*(.*)$", body.rstrip(), re.S)
+            lets, term = m.group(1), m.group(2)
+            if re.match(r"c\.[^\s()]+\.ensures$", term):
+                return body
+            k = len(names) - 1
+            rows = "; ".join(f"{n} = all" + ".1" * j + ("" if j == k else ".0") for j, n in enumerate(names))
+            return f"{lets}\n    let all = {term} in\n    record {{ {rows} }}"
         s = body.rstrip()
         items = flat(split_top(s[i + 1 : -1]), len(names))
         if items is None:

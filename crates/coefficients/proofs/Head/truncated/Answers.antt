@@ -4,6 +4,9 @@ use native.Mathlib.Nat.{min-le_right}
 use Rattle.storage.specs.Filled.{filled_to}
 use Rattle.coefficients.specs.Cuts.{cut_promise}
 use Rattle.coefficients.specs.Model.{model_refused, model_made}
+use Rattle.coefficients.specs.declared.Head.{Head}
+use Rattle.coefficients.specs.declared.Model.TheVariants.{Made}
+use Rattle.coefficients.specs.declared.Model.TheVariants.{Refused as NotMade}
 use Rattle.storage.specs.Answers.{size_is}
 use Rattle.storage.specs.Checks.{outputs_passed}
 use borrow.Author.Rules.{rules}
@@ -38,8 +41,9 @@ pub returns-in-Refused : goal.returns-in-Refused
 returns-in-Refused c =
     let a = c.args in
     let refused = sym c.in-Refused.is ∙ c.outputs_check.ensures in
-    cut_promise a.self a.c.now a.s.now a.cut a.outc.now a.outs.now (
-    record { answers = rw (← c.smaller-top.ensures) (model_refused _ _ refused); leaves_c = refl; leaves_s = refl })
+    let p = cut_promise a.self a.c.now a.s.now a.cut a.outc.now a.outs.now {r = NotMade c.in-Refused.e} {x' = a.outc.now} {y' = a.outs.now} (
+      record { answers = rw (← c.smaller-top.ensures) (model_refused _ _ refused); leaves_c = refl; leaves_s = refl }) in
+    record { value = p.0; outc_after = p.1.0; outs_after = p.1.1 }
 
 pub returns-in-Done : goal.returns-in-Done
 returns-in-Done c =
@@ -49,9 +53,11 @@ returns-in-Done c =
     let ok = sym c.in-Done.is ∙ c.outputs_check.ensures in
     let o = outputs_passed _ _ _ _ _ _ ok in
     let z = c.table_size-size.ensures ∙ size_is _ (omega arith) in
-    cut_promise a.self a.c.now a.s.now a.cut a.outc.now a.outs.now (
-    record {
-      answers = rw (← m) (model_made _ ok);
-      leaves_c = rw (← m) (filled_to c.copy.ensures z).is;
-      leaves_s = rw (← m) (filled_to c.copy-in-Done.ensures z).is;
-    })
+    let head : Head = record { gm = a.self.gm; radius = a.self.radius; tide_system = a.self.tide_system; date = a.self.date; nmax = c.smaller-top.result } in
+    let p = cut_promise a.self a.c.now a.s.now a.cut a.outc.now a.outs.now {r = Made head} {x' = c.copy.new.out} {y' = c.copy-in-Done.new.out} (
+      record {
+        answers = rw (← m) (model_made _ ok);
+        leaves_c = rw (← m) (filled_to c.copy.ensures z).is;
+        leaves_s = rw (← m) (filled_to c.copy-in-Done.ensures z).is;
+      }) in
+    record { value = p.0; outc_after = p.1.0; outs_after = p.1.1 }
