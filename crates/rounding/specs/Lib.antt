@@ -1,4 +1,4 @@
--- To be believed: Sums and Margins (definitions), the first part of Units, and the statements in Theorems. The rest proves them.
+-- To be believed: Sums and Margins (definitions), the first part of Units, and the statements in proofs/Theorems. The rest proves them.
 -- whole numbers of units
 pub mod Distance
 pub mod Integers
@@ -26,6 +26,5 @@ pub mod AverageBound
 pub mod GridBound
 pub mod ExactTerms
 pub mod MarginArithmetic
-pub mod Theorems
 pub mod Examples
 pub mod Controls

@@ -1,0 +1,2 @@
+-- The theorems on the margins, which slepian and synthesis cite.
+pub mod Theorems
