@@ -4,8 +4,7 @@ ghost use Rattle.geopotential.specs.Analyses.{analysis_number, analysis_after, a
 ghost use Rattle.analysis.specs.Analysis.{cosine_sum, sine_sum};
 
 // A functional above 5 is refused by 255, before every check.
-#[unsafe(no_mangle)]
-pub extern "C" fn geopotential_analysis(
+pub fn geopotential_analysis(
     functional: u32,
     love: &[f64],
     r: f64,

@@ -26,8 +26,7 @@ fn hand_on_count(x: Count, count: &mut usize) -> u32
     }
 }
 
-#[unsafe(no_mangle)]
-pub extern "C" fn geopotential_polygon_intervals(
+pub fn geopotential_polygon_intervals(
     vertices: usize,
     outline: &[f64],
     theta: f64,
@@ -63,8 +62,7 @@ pub extern "C" fn geopotential_polygon_intervals(
     )
 }
 
-#[unsafe(no_mangle)]
-pub extern "C" fn geopotential_polygon_breaks(
+pub fn geopotential_polygon_breaks(
     vertices: usize,
     outline: &[f64],
     work: &mut [f64],
@@ -88,8 +86,7 @@ pub extern "C" fn geopotential_polygon_breaks(
     hand_on_count(polygon::breaks(vertices, outline, work, out), count)
 }
 
-#[unsafe(no_mangle)]
-pub extern "C" fn geopotential_basin_kernel(
+pub fn geopotential_basin_kernel(
     lmax: usize,
     nodes: usize,
     weights: &[f64],

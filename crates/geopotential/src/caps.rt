@@ -8,8 +8,7 @@ ghost use Rattle.storage.specs.Rectangle.{by_rows};
 ghost use Rattle.storage.specs.Triangle.{table_size};
 ghost use Rattle.polar_cap.specs.PolarCap.{told_of, cap_check, cap_work, cap_orders, cap_concentrations, cap_vectors, vectors_size};
 
-#[unsafe(no_mangle)]
-pub extern "C" fn geopotential_polar_cap(
+pub fn geopotential_polar_cap(
     lmax: usize,
     cosine: f64,
     weights: &[f64],

@@ -13,8 +13,7 @@ ghost use Rattle.geopotential.specs.Fields.{basin_number, basin_after, grid_numb
 use coefficients::{Date, Head, TideSystem};
 
 // A functional above 5 is refused by 255, before every check.
-#[unsafe(no_mangle)]
-pub extern "C" fn geopotential_grid(
+pub fn geopotential_grid(
     gm: f64,
     radius: f64,
     nmax: usize,
@@ -64,8 +63,7 @@ pub extern "C" fn geopotential_grid(
 }
 
 // A functional above 5 is refused by 255, before every check.
-#[unsafe(no_mangle)]
-pub extern "C" fn geopotential_basin_average(
+pub fn geopotential_basin_average(
     gm: f64,
     radius: f64,
     nmax: usize,

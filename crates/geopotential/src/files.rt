@@ -47,13 +47,7 @@ fn or_space(a: Answer) -> u32
 }
 
 // Reads a model file: T patterns at the front of c and of s, and six words at the front of head.
-#[unsafe(no_mangle)]
-pub extern "C" fn geopotential_model_read(
-    bytes: &[u8],
-    c: &mut [u64],
-    s: &mut [u64],
-    head: &mut [u64],
-) -> u32
+pub fn geopotential_model_read(bytes: &[u8], c: &mut [u64], s: &mut [u64], head: &mut [u64]) -> u32
     ensures value { result ≡ answer_number (model_read (parse bytes.now) (length c.old) (length s.old) (length head.old)) }
     ensures c_after { c.new ≡ after (model_read (parse bytes.now) (length c.old) (length s.old) (length head.old)) (store 0 (c_of (parse bytes.now)) c.old) c.old }
     ensures s_after { s.new ≡ after (model_read (parse bytes.now) (length c.old) (length s.old) (length head.old)) (store 0 (s_of (parse bytes.now)) s.old) s.old }
@@ -72,8 +66,7 @@ pub extern "C" fn geopotential_model_read(
 }
 
 // Writes a model file at the front of out; dated 0 writes no date, every other number the day count. A tide above 3 is refused by 9, before every check.
-#[unsafe(no_mangle)]
-pub extern "C" fn geopotential_model_write(
+pub fn geopotential_model_write(
     gm: u64,
     radius: u64,
     tide: u32,

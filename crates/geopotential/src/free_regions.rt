@@ -11,8 +11,7 @@ ghost use Rattle.region_nodes.specs.Regions.{region_cell, concentration_matrix};
 ghost use Rattle.regions.specs.Checks.{matrix_check, Symmetric};
 ghost use Rattle.region.specs.Region.{region_work, region_check, region_convergence, concentration_at, numbers_at};
 
-#[unsafe(no_mangle)]
-pub extern "C" fn geopotential_concentration_matrix(
+pub fn geopotential_concentration_matrix(
     lmax: usize,
     nodes: usize,
     weights: &[f64],
@@ -42,8 +41,7 @@ pub extern "C" fn geopotential_concentration_matrix(
     ))
 }
 
-#[unsafe(no_mangle)]
-pub extern "C" fn geopotential_region(
+pub fn geopotential_region(
     lmax: usize,
     nodes: usize,
     weights: &[f64],

@@ -19,8 +19,7 @@ pub(crate) fn functional_of(number: u32) -> Functional
 }
 
 // The factor of degree n, through `value`. A functional above 5 is refused by 255, before every check.
-#[unsafe(no_mangle)]
-pub extern "C" fn geopotential_factor(
+pub fn geopotential_factor(
     functional: u32,
     love: &[f64],
     n: usize,

@@ -27,8 +27,7 @@ pub fn hand_on_convergence(a: Solution, settled: &mut u32, count: &mut usize) ->
     }
 }
 
-#[unsafe(no_mangle)]
-pub extern "C" fn geopotential_symmetric_eigen(
+pub fn geopotential_symmetric_eigen(
     n: usize,
     a: &[f64],
     work: &mut [f64],
@@ -64,8 +63,7 @@ pub extern "C" fn geopotential_symmetric_eigen(
     hand_on_convergence(ended, settled, count)
 }
 
-#[unsafe(no_mangle)]
-pub extern "C" fn geopotential_householder_ql(
+pub fn geopotential_householder_ql(
     n: usize,
     a: &[f64],
     work: &mut [f64],

@@ -14,14 +14,7 @@ ghost use Rattle.geopotential.specs.Models.{degree_after, cut_check, same_check,
 
 use coefficients::{Date, Head, Model, TideSystem};
 
-#[unsafe(no_mangle)]
-pub extern "C" fn geopotential_zeros(
-    gm: f64,
-    radius: f64,
-    nmax: usize,
-    c: &mut [f64],
-    s: &mut [f64],
-) -> u32
+pub fn geopotential_zeros(gm: f64, radius: f64, nmax: usize, c: &mut [f64], s: &mut [f64]) -> u32
     ensures value { result ≡ answer_number (room_check nmax (length c.old) (length s.old)) }
     ensures c_after { c.new ≡ after (room_check nmax (length c.old) (length s.old)) (fill 0 zero_at (table_size nmax) c.old) c.old }
     ensures s_after { s.new ≡ after (room_check nmax (length c.old) (length s.old)) (fill 0 zero_at (table_size nmax) s.old) s.old }
@@ -29,8 +22,7 @@ pub extern "C" fn geopotential_zeros(
     coefficients::model_number(Head::zeros(gm, radius, nmax, c, s))
 }
 
-#[unsafe(no_mangle)]
-pub extern "C" fn geopotential_coefficient_c(
+pub fn geopotential_coefficient_c(
     nmax: usize,
     c: &[f64],
     n: usize,
@@ -50,8 +42,7 @@ pub extern "C" fn geopotential_coefficient_c(
     refusal::hand_on(head.c(c, n, m), value)
 }
 
-#[unsafe(no_mangle)]
-pub extern "C" fn geopotential_coefficient_s(
+pub fn geopotential_coefficient_s(
     nmax: usize,
     s: &[f64],
     n: usize,
@@ -71,8 +62,7 @@ pub extern "C" fn geopotential_coefficient_s(
     refusal::hand_on(head.s(s, n, m), value)
 }
 
-#[unsafe(no_mangle)]
-pub extern "C" fn geopotential_set(
+pub fn geopotential_set(
     nmax: usize,
     c: &mut [f64],
     s: &mut [f64],
@@ -110,8 +100,7 @@ fn hand_on_degree(a: Model, degree: &mut usize) -> u32
 }
 
 // The degree that is kept goes through `degree`.
-#[unsafe(no_mangle)]
-pub extern "C" fn geopotential_truncated(
+pub fn geopotential_truncated(
     nmax: usize,
     c: &[f64],
     s: &[f64],
@@ -135,8 +124,7 @@ pub extern "C" fn geopotential_truncated(
     hand_on_degree(head.truncated(c, s, cut, outc, outs), degree)
 }
 
-#[unsafe(no_mangle)]
-pub extern "C" fn geopotential_rescaled(
+pub fn geopotential_rescaled(
     gm: f64,
     radius: f64,
     nmax: usize,
@@ -161,13 +149,7 @@ pub extern "C" fn geopotential_rescaled(
     coefficients::model_number(head.rescaled(c, s, newgm, newradius, outc, outs))
 }
 
-#[unsafe(no_mangle)]
-pub extern "C" fn geopotential_degree_variances(
-    nmax: usize,
-    c: &[f64],
-    s: &[f64],
-    out: &mut [f64],
-) -> u32
+pub fn geopotential_degree_variances(nmax: usize, c: &[f64], s: &[f64], out: &mut [f64]) -> u32
     ensures value { result ≡ answer_number (variances_check nmax (length c.now) (length s.now) (length out.old)) }
     ensures out_after { out.new ≡ after (variances_check nmax (length c.now) (length s.now) (length out.old)) (fill 0 (variance_of c.now s.now) (nmax + 1) out.old) out.old }
 {
@@ -182,8 +164,7 @@ pub extern "C" fn geopotential_degree_variances(
 }
 
 // A functional above 5 is refused by 255, before every check.
-#[unsafe(no_mangle)]
-pub extern "C" fn geopotential_degree_amplitudes(
+pub fn geopotential_degree_amplitudes(
     gm: f64,
     radius: f64,
     nmax: usize,

@@ -15,8 +15,7 @@ use legendre::Latitude;
 use local::Partials;
 
 // The four numbers go to the front of `out`: V, ∂V/∂r, ∂V/∂φ, ∂V/∂λ. It is a list of one point.
-#[unsafe(no_mangle)]
-pub extern "C" fn geopotential_partials(
+pub fn geopotential_partials(
     gm: f64,
     radius: f64,
     nmax: usize,
@@ -60,8 +59,7 @@ pub extern "C" fn geopotential_partials(
     ))
 }
 
-#[unsafe(no_mangle)]
-pub extern "C" fn geopotential_partials_along(
+pub fn geopotential_partials_along(
     gm: f64,
     radius: f64,
     nmax: usize,
@@ -120,8 +118,7 @@ fn store_three(three: &[f64; 3], out: &mut [f64])
 }
 
 // North, east and up go to the front of `out`; one that is shorter is refused by 3, and nothing else is.
-#[unsafe(no_mangle)]
-pub extern "C" fn geopotential_acceleration_neu(
+pub fn geopotential_acceleration_neu(
     v: f64,
     dr: f64,
     dlat: f64,
@@ -144,8 +141,7 @@ pub extern "C" fn geopotential_acceleration_neu(
     0
 }
 
-#[unsafe(no_mangle)]
-pub extern "C" fn geopotential_gravity_neu(
+pub fn geopotential_gravity_neu(
     v: f64,
     dr: f64,
     dlat: f64,

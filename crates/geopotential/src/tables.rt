@@ -15,8 +15,7 @@ ghost use Rattle.quadrature.specs.Gauss.{gauss_check, gauss_node, gauss_weight};
 
 use legendre::Latitude;
 
-#[unsafe(no_mangle)]
-pub extern "C" fn geopotential_legendre_new(nmax: usize, a: &mut [f64], b: &mut [f64]) -> u32
+pub fn geopotential_legendre_new(nmax: usize, a: &mut [f64], b: &mut [f64]) -> u32
     ensures value { result ≡ answer_number (room_check nmax (length a.old) (length b.old)) }
     ensures a_after { a.new ≡ after (room_check nmax (length a.old) (length b.old))
         (fill 0 (along a_cell) (table_size nmax) a.old) a.old }
@@ -26,13 +25,7 @@ pub extern "C" fn geopotential_legendre_new(nmax: usize, a: &mut [f64], b: &mut 
     refusal::answer_number(legendre::new(nmax, a, b))
 }
 
-#[unsafe(no_mangle)]
-pub extern "C" fn geopotential_legendre_grow(
-    from: usize,
-    nmax: usize,
-    a: &mut [f64],
-    b: &mut [f64],
-) -> u32
+pub fn geopotential_legendre_grow(from: usize, nmax: usize, a: &mut [f64], b: &mut [f64]) -> u32
     ensures value { result ≡ answer_number (room_check nmax (length a.old) (length b.old)) }
     ensures a_after { a.new ≡ after (room_check nmax (length a.old) (length b.old))
         (grown a_cell from nmax a.old) a.old }
@@ -42,8 +35,7 @@ pub extern "C" fn geopotential_legendre_grow(
     refusal::answer_number(legendre::grow(from, nmax, a, b))
 }
 
-#[unsafe(no_mangle)]
-pub extern "C" fn geopotential_legendre_compute(
+pub fn geopotential_legendre_compute(
     nmax: usize,
     t: f64,
     u: f64,
@@ -60,8 +52,7 @@ pub extern "C" fn geopotential_legendre_compute(
     refusal::answer_number(legendre::compute(nmax, latitude, a, b, p))
 }
 
-#[unsafe(no_mangle)]
-pub extern "C" fn geopotential_legendre_compute_with_derivative(
+pub fn geopotential_legendre_compute_with_derivative(
     nmax: usize,
     t: f64,
     u: f64,
@@ -84,8 +75,7 @@ pub extern "C" fn geopotential_legendre_compute_with_derivative(
     refusal::answer_number(legendre::compute_with_derivative(nmax, latitude, a, b, p, dp))
 }
 
-#[unsafe(no_mangle)]
-pub extern "C" fn geopotential_legendre_mirror(nmax: usize, table: &mut [f64]) -> u32
+pub fn geopotential_legendre_mirror(nmax: usize, table: &mut [f64]) -> u32
     ensures value { result ≡ answer_number (mirror_check nmax (length table.old)) }
     ensures table_after { table.new ≡ after (mirror_check nmax (length table.old))
         (fill 0 (along (mirrored 0 table.old)) (table_size nmax) table.old) table.old }
@@ -93,8 +83,7 @@ pub extern "C" fn geopotential_legendre_mirror(nmax: usize, table: &mut [f64]) -
     refusal::answer_number(legendre::mirror(nmax, table))
 }
 
-#[unsafe(no_mangle)]
-pub extern "C" fn geopotential_legendre_mirror_derivative(nmax: usize, table: &mut [f64]) -> u32
+pub fn geopotential_legendre_mirror_derivative(nmax: usize, table: &mut [f64]) -> u32
     ensures value { result ≡ answer_number (mirror_check nmax (length table.old)) }
     ensures table_after { table.new ≡ after (mirror_check nmax (length table.old))
         (fill 0 (along (mirrored 1 table.old)) (table_size nmax) table.old) table.old }
@@ -103,8 +92,7 @@ pub extern "C" fn geopotential_legendre_mirror_derivative(nmax: usize, table: &m
 }
 
 // One entry of a table of P, or of a table of its derivatives.
-#[unsafe(no_mangle)]
-pub extern "C" fn geopotential_legendre_entry(
+pub fn geopotential_legendre_entry(
     nmax: usize,
     table: &[f64],
     n: usize,
@@ -117,13 +105,7 @@ pub extern "C" fn geopotential_legendre_entry(
     refusal::hand_on(legendre::p(nmax, table, n, m), value)
 }
 
-#[unsafe(no_mangle)]
-pub extern "C" fn geopotential_gauss_legendre(
-    n: usize,
-    guesses: &[f64],
-    x: &mut [f64],
-    w: &mut [f64],
-) -> u32
+pub fn geopotential_gauss_legendre(n: usize, guesses: &[f64], x: &mut [f64], w: &mut [f64]) -> u32
     ensures value { result ≡ answer_number (gauss_check n (length guesses.now) (length x.old) (length w.old)) }
     ensures x_after { x.new ≡ after (gauss_check n (length guesses.now) (length x.old) (length w.old))
         (fill 0 (gauss_node (from 0 guesses.now nan) n) n x.old) x.old }

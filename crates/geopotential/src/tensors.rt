@@ -12,8 +12,7 @@ use legendre::Latitude;
 use local::{Partials, SecondPartials};
 
 // The ten numbers go to the front of `out`: V, ∂V/∂r, ∂V/∂φ, ∂V/∂λ, then ∂²V by rr, φφ, λλ, rφ, rλ, φλ. It is a list of one point.
-#[unsafe(no_mangle)]
-pub extern "C" fn geopotential_second_partials(
+pub fn geopotential_second_partials(
     gm: f64,
     radius: f64,
     nmax: usize,
@@ -57,8 +56,7 @@ pub extern "C" fn geopotential_second_partials(
     ))
 }
 
-#[unsafe(no_mangle)]
-pub extern "C" fn geopotential_second_partials_along(
+pub fn geopotential_second_partials_along(
     gm: f64,
     radius: f64,
     nmax: usize,
@@ -118,8 +116,7 @@ fn store_nine(tensor: [[f64; 3]; 3], out: &mut [f64])
 }
 
 // The tensor goes to the front of `out`, row by row; a list that is shorter than nine is refused by 3, and nothing else is.
-#[unsafe(no_mangle)]
-pub extern "C" fn geopotential_tensor_neu(
+pub fn geopotential_tensor_neu(
     v: f64,
     dr: f64,
     dlat: f64,

@@ -1,0 +1,18 @@
+// What C calls: each export hands its parameters to the function of the same name in the crate geopotential, and promises what that promises.
+#![tactic(auto)]
+
+mod analyses;
+mod basins;
+mod caps;
+mod fields;
+mod files;
+mod free_regions;
+mod functionals;
+mod lists;
+mod matrices;
+mod models;
+mod numbers;
+mod points;
+mod tables;
+mod tensors;
+mod version;
