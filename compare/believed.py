@@ -13,13 +13,13 @@ import sys
 
 ROOT = pathlib.Path(__file__).resolve().parents[1]
 CRATES = ROOT / "crates"
-WORD = re.compile(r"[^\s(){}\[\],;⌜⌝]+")
+WORD = re.compile(r"[^\s(){}\[\],;]+")
 DEFINED = re.compile(r"^ *(?:abbrev |unfoldable )?(?:pub )?(?:record |data )?([^\s:(){}]+)(?= :| \(| \{)", re.M)
 
 
 def parts(name):
     """The words by which a name stands in a text: an operator by its middle."""
-    return [p for p in name.split("_") if p]
+    return [p for p in name.split("◌") if p]
 
 
 class File:
@@ -54,7 +54,7 @@ FILES = {f"{c.name}.{p.stem}": File(c.name, p) for c in sorted(CRATES.iterdir())
 
 def home(module):
     """The file of a module of ours, or none for one of the language's library or of a declared type."""
-    found = re.fullmatch(r"Rattle·(\w+)(?:·specs)?\.specs\.(\w+)", module)
+    found = re.fullmatch(r"Rattle\.(\w+)\.specs\.(\w+)", module)
     return FILES.get(f"{found[1]}.{found[2]}") if found else None
 
 
@@ -72,12 +72,13 @@ def follow(file, name, seen):
 def promises(source):
     """The public functions of a source file without a requires, each with the names in its ensures."""
     text = source.read_text()
-    for found in re.finditer(r'pub (?:extern "C" )?fn (\w+)\(', text):
+    for found in re.finditer(r'pub fn (\w+)\(', text):
         end = re.search(r"\{\n", text[found.end() :])
         contract = text[found.end() : found.end() + end.start()]
         if "ensures" in contract and "requires" not in contract:
             # a parameter's name is no definition's, also where one has the same
             parameters, ensures = contract[: contract.index("ensures")], contract[contract.index("ensures") :]
+            ensures = re.sub(r"ensures\s+\w+\s*\{", "ensures {", ensures)  # a clause's name is no definition's either
             yield found[1], set(WORD.findall(ensures)) - set(re.findall(r"(\w+):", parameters))
 
 
@@ -106,7 +107,7 @@ through the texts of promises and definitions, and the prover has no part in it.
 ## The definitions behind each public call
 
 `crate/File` stands for `crates/crate/specs/File.antt`. These files are what a reader must believe; the rest of specs/ and all of proofs/ is held to them
-by the prover. Promises also speak the language's library: lists (`length`, `getD`, `take`, `drop`), whole numbers, IEEE 754 arithmetic (`lib.Ieee`).
+by the prover. Promises also speak the language's library: lists (`length`, `get_or`, `take`, `drop`), whole numbers, IEEE 754 arithmetic (`Rattle.std.specs.Float`).
 The entries for C have rows of their own, those that tell lengths one for all.
 
 | call | definitions |
@@ -128,7 +129,7 @@ def rows():
     lengths = set()
     for crate in sorted(CRATES.iterdir()):
         source = crate / "src/lib.rt"
-        if crate.name.startswith("replay") or crate.name in ("days", "geopotential", "text") or not source.exists():
+        if crate.name.startswith("replay") or crate.name in ("days", "geopotential", "geopotential_c", "text") or not source.exists():
             continue
         for name, contract in promises(source):
             call = f"{crate.name}::{name}"

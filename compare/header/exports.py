@@ -1,5 +1,5 @@
 #!/usr/bin/env python3
-"""Holds include/geopotential.h against the entries of the crate geopotential: the same names, the same parameters with the same names and types
+"""Holds include/geopotential.h against the exports of the crate geopotential_c: the same names, the same parameters with the same names and types
 in the same order, the same results, the same version; and the declarations of the Rust crate and of the comparison, which may leave entries out. Prints each
 difference; the exit status is 1 where there is one."""
 
@@ -29,8 +29,8 @@ def in_c(name, kind):
 def exported():
     """The prototypes of the entries, by name."""
     found = {}
-    entry = re.compile(r'#\[no_mangle\]\s+pub extern "C" fn (\w+)\(([^)]*)\) -> (\w+)')
-    for file in sorted((ROOT / "crates/geopotential/src").glob("*.rt")):
+    entry = re.compile(r'#\[unsafe\(no_mangle\)\]\s+pub extern "C" fn (\w+)\(([^)]*)\) -> (\w+)')
+    for file in sorted((ROOT / "crates/geopotential_c/src").glob("*.rt")):
         for name, parameters, result in entry.findall(file.read_text()):
             listed = [p.split(":") for p in parameters.split(",") if p.strip()]
             found[name] = (NUMBERS[result], [c for n, k in listed for c in in_c(n.strip(), k.strip())])
@@ -78,7 +78,7 @@ def main():
             if plain(source.get(name)) != plain(prototype):
                 differences.append(f"{name}:\n  library {source.get(name)}\n  {file} {prototype}")
     constant = re.search(r"#define GEOPOTENTIAL_VERSION (\d+)", (ROOT / "include/geopotential.h").read_text())
-    version = re.search(r"r ≡ (\d+)", (ROOT / "crates/geopotential/src/version.rt").read_text())
+    version = re.search(r"result ≡ (\d+)", (ROOT / "crates/geopotential_c/src/version.rt").read_text())
     if constant is None or version is None or constant[1] != version[1]:
         differences.append("GEOPOTENTIAL_VERSION: the header's constant is not what geopotential_version answers")
     print("\n".join(differences) if differences else f"header: {len(source)} entries, as the library exports them")
