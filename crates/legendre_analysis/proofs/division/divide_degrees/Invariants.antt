@@ -1,0 +1,16 @@
+-- `division::divide_degrees` meets its contract: the degrees below n are divided. Assumes nothing.
+use Rattle.legendre_analysis.specs.Division.{divided_cell, degrees_divided}
+use Rattle.storage.specs.Triangle.{row_start, along, row_start_zero, row_within}
+use Rattle.storage.specs.Elements.{from}
+use lib.Ieee.{nan}
+use Rattle.storage.specs.Filled.{Filled, filled_none, filled_to}
+use native.Mathlib.Omega.{arith}
+use mathlib.Core.Path.{◌≡◌, sym, ap}
+use Prim.Native.Nat.{◌+◌, ◌-◌, ◌≤◌}
+use Rattle.legendre_analysis.proofs.division.divide_degrees.Given as goal
+
+abbrev pub invariant-loop-n : goal.invariant-loop-n
+invariant-loop-n l = (l.at ≡ row_start l.n) × (l.n ≤ l.nmax + 1) × Filled 0 (along (divided_cell (from 0 l.factors nan) l.initial.c)) (row_start l.n) l.initial.c l.c
+
+abbrev pub decreases-loop-n : goal.decreases-loop-n
+decreases-loop-n l = l.nmax + 1 - l.n

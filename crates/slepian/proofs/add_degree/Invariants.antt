@@ -1,0 +1,16 @@
+-- `add_degree` meets its contract: the total so far is that of the orders below m. Assumes nothing.
+use Rattle.rounding.specs.Sums.{running_sum}
+use Rattle.rounding.specs.SumSteps.{running_none, running_more}
+use Rattle.storage.specs.Elements.{from}
+use Rattle.slepian.specs.Average.{degree_term}
+use lib.Ieee.{binary64}
+use native.Mathlib.Omega.{arith}
+use mathlib.Core.Path.{◌≡◌, ap, ◌∙◌}
+use Prim.Native.Nat.{ℕ, ◌+◌, ◌-◌, ◌≤◌}
+use Rattle.slepian.proofs.add_degree.Given as goal
+
+abbrev pub invariant-loop-m : goal.invariant-loop-m
+invariant-loop-m l = (l.m ≤ l.count) × (l.total ≡ running_sum binary64 (degree_term l.factor l.at l.c l.s l.kc l.ks) l.m l.sum)
+
+abbrev pub decreases-loop-m : goal.decreases-loop-m
+decreases-loop-m l = l.count - l.m
