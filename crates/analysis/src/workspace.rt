@@ -29,7 +29,7 @@ fn sum_rows(
     requires nmax_in_bounds_2 { nmax < length rescales.old }
     requires nmax_in_bounds_3 { nmax < length even.old }
     requires nmax_in_bounds_4 { nmax < length odd.old }
-    requires nmax_in_bounds_2 { nmax + nmax + 1 < length sums.old }
+    requires nmax_in_bounds_5 { nmax + nmax + 1 < length sums.old }
     ensures { Summed values.now weights.now latitudes.now trig.now nmax
         work.old work.new c.old c.new s.old s.new }
 {

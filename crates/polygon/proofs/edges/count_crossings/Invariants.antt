@@ -1,0 +1,15 @@
+-- `count_crossings` meets its contract: the edges before i are counted. Assumes nothing.
+use Rattle.polygon.specs.Outline.{crosses, crossing, crossings}
+use Rattle.polygon.specs.Picked.{picked_before}
+use borrow.Author.Rules.{rules}
+use native.Mathlib.Omega.{arith}
+use mathlib.Core.Path.{◌≡◌, refl, ap, ◌∙◌}
+use Prim.Native.Nat.{ℕ, ◌-◌, ◌≤◌}
+use lib.ListN.{length}
+use Rattle.polygon.proofs.edges.count_crossings.Given as goal
+
+abbrev pub invariant-loop-i : goal.invariant-loop-i
+invariant-loop-i l = (l.i ≤ l.v) × (l.k ≤ l.i) × (l.k ≡ length (picked_before (crosses l.v l.outline l.theta) (crossing l.v l.outline l.theta) l.i))
+
+abbrev pub decreases-loop-i : goal.decreases-loop-i
+decreases-loop-i l = l.v - l.i
