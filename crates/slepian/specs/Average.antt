@@ -25,7 +25,7 @@ use Rattle.functional.specs.Factor.{factor_of, factor_fits}
 use Rattle.rounding.specs.Sums.{running_sum, triangle_sum}
 use Rattle.rounding.specs.SumSteps.{running_same, triangle_more}
 use Rattle.rounding.specs.Margins.{average_summand, average, AtMostOne, TableFits, AverageWithin}
-use Rattle.rounding.specs.Theorems.{average-within}
+use Rattle.rounding.proofs.Theorems.{average-within}
 
 -- demand 3: the answer x, where it is a finite value, is within the margin of the exact average up to degree N of a field c, s with a kernel whose first
 -- number is at most 1 in size

@@ -18,7 +18,7 @@ use Rattle.storage.specs.Rectangle.{by_rows, by_rows_same, by_rows_at}
 use Rattle.storage.specs.Triangle.{table_size, cells, along}
 use Rattle.recursion.specs.Recursion.{a_cell, b_cell, p_cell}
 use Rattle.rounding.specs.Margins.{LineFits, GridWithin}
-use Rattle.rounding.specs.Theorems.{grid-within}
+use Rattle.rounding.proofs.Theorems.{grid-within}
 use Rattle.legendre.specs.Directions.{cosines, sines, legendre_row}
 use Rattle.recursion.specs.Tables.{with_tables}
 use Rattle.synthesis.specs.Grid.{grid_cell, SizesAtMostOne, work_size, grid_check}
