@@ -1,0 +1,8 @@
+-- `geopotential_coefficient_c` meets its contract. Assumes nothing.
+use borrow.Author.Rules.{rules}
+use Rattle.geopotential.proofs.models.geopotential_coefficient_c.Goals as goal
+
+pub returns : goal.returns
+returns c =
+    let e = c.c.ensures in
+    record { value = rw (← e) c.hand_on.ensures.value; value_after = rw (← e) c.hand_on.ensures.value_after }
