@@ -7,7 +7,7 @@ use Rattle.std.specs.Float.Ieee.{nan}
 use Rattle.number.specs.Float64.{◌⊕◌, ◌⊗◌}
 use Rattle.storage.specs.Elements.{from, from_zero}
 use Rattle.storage.specs.Filled.{Filled, filled_none, filled_same, filled_in, filled_after, filled_to}
-use Rattle.storage.specs.Triangle.{row_start, idx, along, row_start_zero, row_start_more, rows_more}
+use Rattle.storage.specs.Triangle.{row_start, idx, along, row_start_zero, rows_more}
 use Rattle.recursion.specs.Recursion.{pmm, rescale, p_cell}
 use Rattle.legendre.specs.Rows.{next_row, scaled_row, UpToRow, up_to_none, up_to_more, scaled_row_is}
 use Rattle.fourier_analysis.specs.Longitudes.{first_of, second_of}

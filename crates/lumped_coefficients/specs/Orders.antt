@@ -7,7 +7,7 @@ use Rattle.std.specs.Float.Ieee.{binary64, nan, of_bits}
 use Rattle.number.specs.Float64.{◌⊕◌, ◌⊗◌}
 use Rattle.storage.specs.Elements.{zero_at, from, from_zero}
 use Rattle.storage.specs.Filled.{Filled, filled_same, filled_in, filled_front}
-use Rattle.storage.specs.Triangle.{row_start, idx, cells, row_start_zero, row_start_more}
+use Rattle.storage.specs.Triangle.{row_start, idx, cells}
 use Rattle.recursion.specs.Recursion.{pmm, rescale, p_cell}
 use Rattle.legendre.specs.Rows.{next_row, scaled_row, UpToRow, up_to_none, up_to_more, scaled_row_is}
 use Rattle.rounding.specs.Sums.{column_sum}

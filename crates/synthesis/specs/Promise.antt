@@ -1,7 +1,7 @@
 -- What `grid` promises of its answer, its output and its working list, and demand 3 for every value. Assumes nothing.
-use Rattle.std.specs.Prelude.{◌≡◌, Bool, List, ℕ, ◌+◌, ◌*◌, ◌≤◌, ◌<◌, length, take, drop, Float}
+use Rattle.std.specs.Prelude.{◌≡◌, Bool, List, ℕ, ◌+◌, ◌*◌, ◌≤◌, ◌<◌, length, drop, Float}
 use Rattle.std.proofs.Math.Path.{refl, ap, subst}
-use Rattle.std.proofs.Common.{sym, ◌∙◌, zero-add, arith, get_or-take, get_or-drop}
+use Rattle.std.proofs.Common.{sym, ◌∙◌, zero-add, arith}
 use Rattle.std.proofs.Math.Nat.{mul-le-mul_right}
 use Rattle.std.proofs.Math.Dec.{T}
 use Rattle.std.proofs.Math.ListN.{get_or}
@@ -10,7 +10,7 @@ use Rattle.std.specs.Float.Ieee.Fits.{mul-fits}
 use Rattle.std.specs.Float.Ieee.Scale.{finite}
 use Rattle.refusal.specs.Numbers.{after, behind}
 use Rattle.refusal.specs.declared.Answer.{Answer}
-use Rattle.refusal.specs.declared.Answer.TheVariants.{Done, Refused}
+use Rattle.refusal.specs.declared.Answer.TheVariants.{Done}
 use Rattle.storage.specs.Elements.{from, from_zero}
 use Rattle.storage.specs.Fill.{fill, length-fill, drop-fill}
 use Rattle.storage.specs.Filled.{Filled, filled, filled_in, filled_before}

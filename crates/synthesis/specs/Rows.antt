@@ -1,6 +1,6 @@
 -- The rows of a grid: a row's values from the sums of its orders, and from its own pair alone. Assumes nothing.
 use Rattle.std.specs.Prelude.{◌≡◌, refl, ℕ, suc, ◌+◌, ◌≤◌, ◌<◌, length, get_or, set, Float}
-use Rattle.std.proofs.Common.{sym, ap, ◌∙◌, not-suc-le-zero, zero-add, arith, get_or-set_other}
+use Rattle.std.proofs.Common.{sym, ◌∙◌, not-suc-le-zero, zero-add, arith, get_or-set_other}
 use Rattle.std.proofs.Math.Path.{ap₂}
 use mathlib.Core.List.{List}
 use Rattle.std.proofs.Math.Numerals.{add-one}

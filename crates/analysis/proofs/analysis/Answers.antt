@@ -2,7 +2,6 @@
 use Rattle.analysis.specs.Checks.{accepted, check_found}
 use Rattle.coefficients.specs.Model.{model_refused, model_made}
 use mathlib.Core.Path.{refl, sym, ◌∙◌}
-use borrow.Author.Rules.{rules}
 use Rattle.analysis.proofs.analysis.Goals as goal
 
 pub compute-requires : goal.compute-requires

@@ -5,7 +5,6 @@ use Rattle.storage.specs.Checks.{space_first, space_second, space_done}
 use Rattle.storage.specs.Triangle.{table_size_most}
 use native.Mathlib.Omega.{arith}
 use mathlib.Core.Path.{◌∙◌}
-use borrow.Author.Rules.{rules}
 use Rattle.analysis.proofs.analysis_check.Goals as goal
 
 pub returns-then-nmax-gt-MAX_DEGREE : goal.returns-then-nmax-gt-MAX_DEGREE

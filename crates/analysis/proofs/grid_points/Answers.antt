@@ -1,7 +1,6 @@
 -- `grid_points` meets its contract: the product fits. Assumes nothing.
 use Rattle.analysis.specs.Checks.{points_are, points_most}
 use native.Mathlib.Omega.{arith}
-use borrow.Author.Rules.{rules}
 use Rattle.analysis.proofs.grid_points.Goals as goal
 
 pub overflow_mul-result : goal.overflow_mul-result

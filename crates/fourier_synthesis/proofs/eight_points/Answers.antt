@@ -1,9 +1,9 @@
 -- `eight_points` meets its contract: the eight sums so far are those of the orders below m. Assumes nothing.
-use Rattle.fourier_synthesis.specs.Longitudes.{order_from, EightPoints, eight_none, eight_more, eight_to}
+use Rattle.fourier_synthesis.specs.Longitudes.{order_from, eight_none, eight_more, eight_to}
 use lib.Ieee.{of_bits}
 use native.Mathlib.Omega.{arith}
 use mathlib.Core.Path.{◌≡◌}
-use Prim.Native.Nat.{◌+◌, ◌-◌, ◌≤◌}
+use Prim.Native.Nat.{◌+◌}
 use Rattle.fourier_synthesis.proofs.eight_points.Goals as goal
 
 pub loop-m-init : goal.loop-m-init

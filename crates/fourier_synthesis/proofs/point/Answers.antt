@@ -4,7 +4,7 @@ use lib.Ieee.{binary64, of_bits}
 use Rattle.rounding.specs.SumSteps.{running_none}
 use native.Mathlib.Omega.{arith}
 use mathlib.Core.Path.{◌≡◌, ap, ◌∙◌}
-use Prim.Native.Nat.{◌+◌, ◌-◌, ◌≤◌}
+use Prim.Native.Nat.{◌+◌}
 use Rattle.fourier_synthesis.proofs.point.Goals as goal
 
 pub loop-m-init : goal.loop-m-init

@@ -1,10 +1,7 @@
 -- `point` meets its contract: the sum so far is that of the orders below m. Assumes nothing.
-use Rattle.fourier_synthesis.specs.Longitudes.{order_from, orders_below, point_from, order_more}
-use lib.Ieee.{binary64, of_bits}
-use Rattle.rounding.specs.SumSteps.{running_none}
-use native.Mathlib.Omega.{arith}
-use mathlib.Core.Path.{◌≡◌, ap, ◌∙◌}
-use Prim.Native.Nat.{◌+◌, ◌-◌, ◌≤◌}
+use Rattle.fourier_synthesis.specs.Longitudes.{orders_below}
+use mathlib.Core.Path.{◌≡◌}
+use Prim.Native.Nat.{◌-◌, ◌≤◌}
 use Rattle.fourier_synthesis.proofs.point.Given as goal
 
 abbrev pub invariant-loop-m : goal.invariant-loop-m

@@ -2,8 +2,7 @@
 use Rattle.fourier_synthesis.specs.Longitudes.{point_after}
 use Rattle.storage.specs.Filled.{filled_to, filled_join}
 use native.Mathlib.Omega.{arith}
-use mathlib.Core.Path.{refl, ◌∙◌}
-use borrow.Author.Rules.{rules}
+use mathlib.Core.Path.{refl}
 use Rattle.fourier_synthesis.proofs.points.Goals as goal
 
 pub points_eight-first-requires : goal.points_eight-first-requires

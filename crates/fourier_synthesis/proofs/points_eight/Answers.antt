@@ -1,10 +1,10 @@
 -- `points_eight` meets its contract: the values before longitude j are written. Assumes nothing.
-use Rattle.fourier_synthesis.specs.Longitudes.{point_at, lanes}
-use Rattle.storage.specs.Filled.{Filled, filled_none, filled_join}
+use Rattle.fourier_synthesis.specs.Longitudes.{lanes}
+use Rattle.storage.specs.Filled.{filled_none, filled_join}
 use native.Mathlib.Nat.{mul-le-mul_right}
 use native.Mathlib.Omega.{arith}
-use mathlib.Core.Path.{◌≡◌, refl}
-use Prim.Native.Nat.{◌+◌, ◌-◌, ◌*◌, ◌≤◌}
+use mathlib.Core.Path.{refl}
+use Prim.Native.Nat.{◌+◌, ◌≤◌}
 use Rattle.fourier_synthesis.proofs.points_eight.Goals as goal
 
 pub loop-j-init : goal.loop-j-init

@@ -1,6 +1,6 @@
 -- `points_rest` meets its contract: the values from the first up to longitude j are written. Assumes nothing.
-use Rattle.fourier_synthesis.specs.Longitudes.{point_after, point_is, point_after_lem}
-use Rattle.storage.specs.Filled.{Filled, filled_none, filled_more, filled_to}
+use Rattle.fourier_synthesis.specs.Longitudes.{point_is, point_after_lem}
+use Rattle.storage.specs.Filled.{filled_none, filled_more, filled_to}
 use native.Mathlib.Nat.{mul-le-mul_right}
 use native.Mathlib.Omega.{arith}
 use mathlib.Core.Path.{◌≡◌, refl, ap, ◌∙◌}

@@ -1,14 +1,12 @@
 -- `points_rest` meets its contract: the values from the first up to longitude j are written. Assumes nothing.
-use Rattle.fourier_synthesis.specs.Longitudes.{point_after, point_is, point_after_lem}
-use Rattle.storage.specs.Filled.{Filled, filled_none, filled_more, filled_to}
-use native.Mathlib.Nat.{mul-le-mul_right}
-use native.Mathlib.Omega.{arith}
-use mathlib.Core.Path.{◌≡◌, refl, ap, ◌∙◌}
-use Prim.Native.Nat.{ℕ, ◌+◌, ◌-◌, ◌*◌, ◌≤◌}
+use Rattle.fourier_synthesis.specs.Longitudes.{point_after}
+use Rattle.storage.specs.Filled.{Filled}
+use mathlib.Core.Path.{◌≡◌}
+use Prim.Native.Nat.{◌+◌, ◌-◌, ◌*◌, ◌≤◌}
 use Rattle.fourier_synthesis.proofs.points_rest.Given as goal
 
 abbrev pub invariant-loop-j : goal.invariant-loop-j
-invariant-loop-j l =     ((l.first ≤ l.j) × (l.j ≤ l.longitudes)) × (l.k ≡ l.j * l.stride) × Filled (l.at + l.first) (point_after l.first l.nmax l.x l.y l.trig) (l.j - l.first) l.initial.out l.out
+invariant-loop-j l = ((l.first ≤ l.j) × (l.j ≤ l.longitudes)) × (l.k ≡ l.j * l.stride) × Filled (l.at + l.first) (point_after l.first l.nmax l.x l.y l.trig) (l.j - l.first) l.initial.out l.out
 
 abbrev pub decreases-loop-j : goal.decreases-loop-j
 decreases-loop-j l = l.longitudes - l.j

@@ -1,6 +1,5 @@
 -- `add_degree` meets its contract: what its four calls promise. Assumes nothing.
 use native.Mathlib.Omega.{arith}
-use borrow.Author.Rules.{rules}
 use Rattle.lumped_coefficients.proofs.add_degree.Goals as goal
 
 pub scale_row-requires : goal.scale_row-requires

@@ -1,14 +1,12 @@
 -- `add_degrees` meets its contract: the degrees below n are added, and the last two rows of q are at hand. Assumes nothing.
-use native.Mathlib.Omega.{arith}
-use mathlib.Core.Path.{◌≡◌, refl, sym, ap, ◌∙◌}
-use Prim.Native.Nat.{ℕ, ◌+◌, ◌-◌, ◌≤◌, ◌<◌}
+use mathlib.Core.Path.{◌≡◌}
+use Prim.Native.Nat.{◌+◌, ◌-◌, ◌≤◌}
 use lib.ListN.{length}
-use Rattle.storage.specs.Triangle.{row_start, RowWithin, row_within}
-use Rattle.lumped_coefficients.specs.Orders.{DegreesBelow, degrees_none, degrees_more, degrees_to}
+use Rattle.lumped_coefficients.specs.Orders.{DegreesBelow}
 use Rattle.lumped_coefficients.proofs.add_degrees.Given as goal
 
 abbrev pub invariant-loop-n : goal.invariant-loop-n
-invariant-loop-n l =     (l.n ≤ l.nmax + 1) × (length l.even ≡ length l.initial.even) × (length l.odd ≡ length l.initial.odd) × (length l.p ≡ length l.initial.p)
+invariant-loop-n l = (l.n ≤ l.nmax + 1) × (length l.even ≡ length l.initial.even) × (length l.odd ≡ length l.initial.odd) × (length l.p ≡ length l.initial.p)
     × DegreesBelow l.n l.at l.nmax l.t l.u l.a l.b l.c l.s l.factors l.odd l.even l.initial.x l.initial.y l.x l.y
 
 abbrev pub decreases-loop-n : goal.decreases-loop-n

@@ -1,8 +1,7 @@
 -- `add_row` meets its contract: the sums so far have the degree's numbers added. Assumes nothing.
 use native.Mathlib.Omega.{arith}
-use Prim.Native.Nat.{◌-◌, ◌≤◌}
 use lib.Ieee.{nan}
-use Rattle.storage.specs.Filled.{Filled, filled_none, filled_more, filled_to, filled_after}
+use Rattle.storage.specs.Filled.{filled_none, filled_more, filled_to, filled_after}
 use Rattle.lumped_coefficients.specs.Orders.{added_row}
 use Rattle.lumped_coefficients.proofs.add_row.Goals as goal
 

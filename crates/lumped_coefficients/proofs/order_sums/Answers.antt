@@ -1,7 +1,6 @@
 -- `order_sums` meets its contract: the powers and the cleared sums are what the degrees ask for. Assumes nothing.
 use native.Mathlib.Omega.{arith}
 use Rattle.storage.specs.Filled.{filled_self, filled_again}
-use borrow.Author.Rules.{rules}
 use Rattle.lumped_coefficients.proofs.order_sums.Goals as goal
 
 pub clear-requires-2 : goal.clear-requires-2
@@ -19,5 +18,5 @@ add_degrees-requires c =
 
 pub returns : goal.returns
 returns c =
-    let x = c.add_degrees.ensures.filled_2 in let y = c.add_degrees.ensures.filled_3 in 
+    let x = c.add_degrees.ensures.filled_2 in let y = c.add_degrees.ensures.filled_3 in
     record { filled_2 = filled_again c.clear.ensures x (omega arith); filled_3 = filled_again c.clear-2.ensures y (omega arith) }

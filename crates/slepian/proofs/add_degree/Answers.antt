@@ -6,7 +6,7 @@ use Rattle.slepian.specs.Average.{degree_term}
 use lib.Ieee.{binary64}
 use native.Mathlib.Omega.{arith}
 use mathlib.Core.Path.{◌≡◌, ap, ◌∙◌}
-use Prim.Native.Nat.{ℕ, ◌+◌, ◌-◌, ◌≤◌}
+use Prim.Native.Nat.{ℕ, ◌+◌}
 use Rattle.slepian.proofs.add_degree.Goals as goal
 
 pub loop-m-init : goal.loop-m-init

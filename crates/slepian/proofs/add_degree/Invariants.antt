@@ -1,12 +1,9 @@
 -- `add_degree` meets its contract: the total so far is that of the orders below m. Assumes nothing.
 use Rattle.rounding.specs.Sums.{running_sum}
-use Rattle.rounding.specs.SumSteps.{running_none, running_more}
-use Rattle.storage.specs.Elements.{from}
 use Rattle.slepian.specs.Average.{degree_term}
 use lib.Ieee.{binary64}
-use native.Mathlib.Omega.{arith}
-use mathlib.Core.Path.{◌≡◌, ap, ◌∙◌}
-use Prim.Native.Nat.{ℕ, ◌+◌, ◌-◌, ◌≤◌}
+use mathlib.Core.Path.{◌≡◌}
+use Prim.Native.Nat.{◌-◌, ◌≤◌}
 use Rattle.slepian.proofs.add_degree.Given as goal
 
 abbrev pub invariant-loop-m : goal.invariant-loop-m

@@ -2,7 +2,6 @@
 use Rattle.slepian.specs.Average.{check_size, check_field, check_kernel, check_love, check_done}
 use native.Mathlib.Omega.{arith}
 use mathlib.Core.Path.{sym, ◌∙◌}
-use borrow.Author.Rules.{rules}
 use Rattle.slepian.proofs.average_check.Goals as goal
 
 pub returns-then-kmax-gt-MAX_DEGREE : goal.returns-then-kmax-gt-MAX_DEGREE

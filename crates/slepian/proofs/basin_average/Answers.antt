@@ -9,10 +9,9 @@ use Rattle.storage.specs.Triangle.{cells, idx, row_start_monotone, row_start_lea
 use Rattle.slepian.specs.Average.{promised, answer-value, answer_refused, check_top, average_is}
 use native.Mathlib.Nat.{min-le_left, min-le_right}
 use native.Mathlib.Omega.{arith}
-use mathlib.Core.Path.{◌≡◌, sym, ap, ◌∙◌}
-use Prim.Native.Nat.{ℕ, ◌+◌, min}
+use mathlib.Core.Path.{sym, ap, ◌∙◌}
+use Prim.Native.Nat.{ℕ, ◌+◌}
 use lib.ListN.{length}
-use borrow.Author.Rules.{rules}
 use Rattle.slepian.proofs.basin_average.Goals as goal
 
 -- a list of doubles is a table of them

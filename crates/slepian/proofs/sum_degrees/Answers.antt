@@ -1,14 +1,12 @@
 -- `sum_degrees` meets its contract: the sum so far is that of the degrees below n. Assumes nothing.
-use Rattle.storage.specs.Triangle.{cells, row_start, row_start_zero, row_start_more, row_within}
-use Rattle.functional.specs.Factor.{factor_of}
+use Rattle.storage.specs.Triangle.{row_start_zero, row_start_more, row_within}
 use Rattle.rounding.specs.Sums.{triangle_sum}
 use Rattle.rounding.specs.SumSteps.{triangle_none}
-use Rattle.slepian.specs.Average.{terms, degree_added}
+use Rattle.slepian.specs.Average.{degree_added}
 use lib.Ieee.{binary64, of_bits}
-use borrow.Author.Rules.{rules}
 use native.Mathlib.Omega.{arith}
 use mathlib.Core.Path.{◌≡◌, sym, ap, ◌∙◌}
-use Prim.Native.Nat.{ℕ, ◌+◌, ◌-◌, ◌≤◌}
+use Prim.Native.Nat.{◌+◌}
 use Rattle.slepian.proofs.sum_degrees.Goals as goal
 
 pub loop-n-init : goal.loop-n-init

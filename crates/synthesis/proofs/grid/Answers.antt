@@ -4,7 +4,6 @@ use Rattle.synthesis.specs.Checks.{accepted}
 use Rattle.functional.specs.Factor.{factor_of, lacks_love, factor_fits}
 use mathlib.Core.Path.{refl, sym, ◌∙◌}
 use lib.ListN.{length}
-use borrow.Author.Rules.{rules}
 use Rattle.synthesis.proofs.grid.Goals as goal
 
 pub compute-requires : goal.compute-requires

@@ -1,12 +1,10 @@
 -- `grid_check` meets its contract: each way through it has its law. Assumes nothing.
 use Rattle.synthesis.specs.Checks.{many_rows, many_longitudes, wrong_tables, wrong_pairs, wrong_orders, no_love, short_work, short_out, all_passed}
-use Rattle.storage.specs.Checks.{tables_check, tables_passed}
-use Rattle.refusal.specs.declared.Answer.TheVariants.{Done}
+use Rattle.storage.specs.Checks.{tables_passed}
 use native.Mathlib.Nat.{mul-le-mul_right}
 use native.Mathlib.Omega.{arith}
-use mathlib.Core.Path.{◌≡◌, sym, ◌∙◌}
+use mathlib.Core.Path.{sym, ◌∙◌}
 use Prim.Native.Nat.{◌+◌}
-use borrow.Author.Rules.{rules}
 use Rattle.synthesis.proofs.grid_check.Goals as goal
 
 pub returns-then-rows-gt-MAX_LINES : goal.returns-then-rows-gt-MAX_LINES

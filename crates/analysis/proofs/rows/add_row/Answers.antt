@@ -33,6 +33,9 @@ returns c =
     let Y = sines_from a.values.now a.trig.now a.at a.longitudes in
     let x = c.order_sums.ensures in
     let sums = c.order_sums.new.sums in
-    let added = c.add_degrees.ensures.filled_2 in let adds = c.add_degrees.ensures.filled_3 in record { filled_2 = added_by_lem a.weight P (first_of sums) X a.nmax
-          (first_is a.values.now a.trig.now a.at a.longitudes x (omega (arith, k.of_sums))) added; filled_3 = added_by_lem a.weight P (second_of sums) Y a.nmax
-          (second_is a.values.now a.trig.now a.at a.longitudes x (omega (arith, k.of_sums))) adds }
+    let added = c.add_degrees.ensures.filled_2 in let adds = c.add_degrees.ensures.filled_3 in record {
+      filled_2 = added_by_lem a.weight P (first_of sums) X a.nmax
+          (first_is a.values.now a.trig.now a.at a.longitudes x (omega (arith, k.of_sums))) added;
+      filled_3 = added_by_lem a.weight P (second_of sums) Y a.nmax
+          (second_is a.values.now a.trig.now a.at a.longitudes x (omega (arith, k.of_sums))) adds;
+    }

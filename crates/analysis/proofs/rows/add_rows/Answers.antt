@@ -1,15 +1,13 @@
 -- `rows::add_rows` meets its contract: the rows above row i are added. Assumes nothing.
-use Rattle.analysis.specs.Analysis.{cosine_sum, sine_sum, row_weight}
 use Rattle.fourier_analysis.specs.Longitudes.{cosines_from, sines_from}
-use Rattle.analysis.specs.Rows.{legendre_by, SumsBelow, sums_none, sums_more, sums_to, room_kept, row_weight_is, legendre_at, cosines_are, sines_are}
+use Rattle.analysis.specs.Rows.{sums_none, sums_more, sums_to, room_kept, row_weight_is, legendre_at, cosines_are, sines_are}
 use Rattle.recursion.specs.Recursion.{p_cell}
 use Rattle.storage.specs.Elements.{from}
 use lib.Ieee.{nan}
 use native.Mathlib.Nat.{mul-le-mul_right}
 use native.Mathlib.Omega.{arith}
 use mathlib.Core.Path.{◌≡◌, refl, ◌∙◌}
-use Prim.Native.Nat.{◌+◌, ◌-◌, ◌*◌, ◌≤◌}
-use lib.ListN.{length}
+use Prim.Native.Nat.{◌+◌, ◌≤◌}
 use Rattle.analysis.proofs.rows.add_rows.Goals as goal
 
 pub loop-i-init : goal.loop-i-init
@@ -65,7 +63,7 @@ loop-i-preserved c =
     let l = c.loop-i in
     let place = c.latitude_of-latitude in
     let mean-weight = c.mean_weight-weight in
-    let added = c.add_row.ensures.filled_2 in let adds = c.add_row.ensures.filled_3 in 
+    let added = c.add_row.ensures.filled_2 in let adds = c.add_row.ensures.filled_3 in
     let kept = c.add_row.auto in
     let wide = q.longitudes_value_1 in
     let w = row_weight_is a.weights.now a.nmax l.i a.longitudes wide mean-weight.ensures in

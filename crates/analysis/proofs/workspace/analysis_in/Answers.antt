@@ -2,7 +2,6 @@
 use Rattle.analysis.specs.Promise.{made}
 use Rattle.functional.specs.Factor.{factor_of}
 use native.Mathlib.Omega.{arith}
-use mathlib.Core.Path.{◌∙◌}
 use Rattle.analysis.proofs.workspace.analysis_in.Goals as goal
 
 pub sum_rows-requires : goal.sum_rows-requires
@@ -23,5 +22,5 @@ returns c =
     let k = c.requires.accepted in
     let g = factor_of a.functional a.love.now a.gm a.radius a.r in
     let e = c.sum_rows.ensures in
-    let dc = c.divide.ensures.filled in let ds = c.divide.ensures.filled_2 in 
+    let dc = c.divide.ensures.filled in let ds = c.divide.ensures.filled_2 in
     made a.values.now a.weights.now a.latitudes.now a.trig.now a.nmax g e dc ds k.room_c k.room_s

@@ -5,7 +5,6 @@ use Rattle.recursion.specs.Tables.{second_table}
 use Rattle.storage.specs.Answers.{size_is}
 use Rattle.storage.specs.Triangle.{table_size_most}
 use Rattle.storage.specs.Filled.{filled_self, filled_to}
-use borrow.Author.Rules.{rules}
 use native.Mathlib.Omega.{arith}
 use mathlib.Core.Path.{refl, ◌∙◌}
 use Prim.Native.Nat.{◌-◌}
@@ -74,7 +73,8 @@ add_rows-requires c =
     let long = c.tables.auto.work in
     let d = c.sectorals.ensures in
     let clear-c = c.clear.ensures in
-    let clear-s = c.clear-2.ensures in record { row_room = record {
+    let clear-s = c.clear-2.ensures in record {
+      row_room = record {
         top = k.top;
         of_a = omega (arith, k.room_work, long);
         of_b = omega (arith, c.b-1.given, z, k.room_work, long);
@@ -85,7 +85,16 @@ add_rows-requires c =
         of_sums = q.nmax_in_bounds_5;
         of_c = omega (arith, k.room_c, clear-c.long);
         of_s = omega (arith, k.room_s, clear-s.long);
-      }; filled_1 = filled_self d; filled_2 = filled_to (filled_self clear-c) z; filled_3 = filled_to (filled_self clear-s) z; longitudes_value_1 = refl; longitudes_value_2 = omega (arith, k.points, points); longitudes_value_3 = omega (arith, k.orders, points); longitudes_value_4 = omega (arith, k.of_weights); longitudes_value_5 = omega (arith, k.pairs) }
+      };
+      filled_1 = filled_self d;
+      filled_2 = filled_to (filled_self clear-c) z;
+      filled_3 = filled_to (filled_self clear-s) z;
+      longitudes_value_1 = refl;
+      longitudes_value_2 = omega (arith, k.points, points);
+      longitudes_value_3 = omega (arith, k.orders, points);
+      longitudes_value_4 = omega (arith, k.of_weights);
+      longitudes_value_5 = omega (arith, k.pairs);
+    }
 
 pub returns : goal.returns
 returns c =
@@ -100,6 +109,6 @@ returns c =
     let room = length w - total in
     let zero-c = filled_to c.clear.ensures z in
     let zero-s = filled_to c.clear-2.ensures z in
-    let rc = c.add_rows.ensures.filled_2 in let rs = c.add_rows.ensures.filled_3 in 
+    let rc = c.add_rows.ensures.filled_2 in let rs = c.add_rows.ensures.filled_3 in
     summed a.values.now a.weights.now a.latitudes.now a.trig.now N (take room (drop total w)) tables.ensures k.room_work
     (λ i h. second_table N total room w z i (omega (arith, h, z, k.room_work, long))) zero-c zero-s rc rs

@@ -1,8 +1,8 @@
 -- `degrees::add_degrees` meets its contract: the terms of the degrees below n are added, and the last two rows of q are at hand. Assumes nothing.
-use Rattle.std.specs.Prelude.{◌≡◌, refl, ℕ, ◌+◌, ◌≤◌, ◌<◌, length}
+use Rattle.std.specs.Prelude.{◌≡◌, refl, ℕ, ◌+◌, ◌≤◌, ◌<◌}
 use Rattle.std.proofs.Common.{sym, ap, arith}
 use Rattle.storage.specs.Triangle.{row_start, RowWithin, row_within}
-use Rattle.legendre_analysis.specs.Degrees.{DegreesBelow, DegreeFits, degrees_none, degrees_more, degrees_to}
+use Rattle.legendre_analysis.specs.Degrees.{degrees_none, degrees_more, degrees_to}
 use Rattle.legendre_analysis.proofs.degrees.add_degrees.Goals as goal
 
 -- the two rows of a turn are within the tables
@@ -77,8 +77,7 @@ loop-n-preserved c =
     let one = c.add_degree.ensures in
     let two = c.add_degree-in-loop-n.ensures in
     let m1 = two.filled.long in
-    let below = degrees_more loop.invariant.3 pre.filled_1 pre.filled_2 (record { degree = omega arith; of_sectorals = omega arith; of_r = omega arith; of_newer = omega arith; of_older = omega arith }) one.filled one.filled_2 one.filled_3 refl refl in
-    (
+    let below = degrees_more loop.invariant.3 pre.filled_1 pre.filled_2 (record { degree = omega arith; of_sectorals = omega arith; of_r = omega arith; of_newer = omega arith; of_older = omega arith }) one.filled one.filled_2 one.filled_3 refl refl in (
       omega arith,
       omega arith,
       omega arith,

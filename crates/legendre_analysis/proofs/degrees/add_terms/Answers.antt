@@ -2,11 +2,11 @@
 use Rattle.fourier_analysis.specs.Longitudes.{first_of, second_of}
 use Rattle.legendre_analysis.specs.Degrees.{added_row}
 use Rattle.legendre.specs.Rows.{scaled_row}
-use Rattle.storage.specs.Filled.{Filled, filled_none, filled_more, filled_to, filled_after}
+use Rattle.storage.specs.Filled.{filled_none, filled_more, filled_to, filled_after}
 use lib.Ieee.{nan}
 use native.Mathlib.Omega.{arith}
 use mathlib.Core.Path.{refl}
-use Prim.Native.Nat.{◌+◌, ◌-◌, ◌≤◌}
+use Prim.Native.Nat.{◌+◌}
 use Rattle.legendre_analysis.proofs.degrees.add_terms.Goals as goal
 
 pub loop-m-init : goal.loop-m-init

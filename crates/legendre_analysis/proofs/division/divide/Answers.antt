@@ -1,7 +1,6 @@
 -- `division::divide` meets its contract: both tables over the factors that are filled in before. Assumes nothing.
 use Rattle.legendre_analysis.specs.Division.{divided_by}
 use Rattle.functional.specs.Factor.{factor_of}
-use borrow.Author.Rules.{rules}
 use Rattle.legendre_analysis.proofs.division.divide.Goals as goal
 
 pub returns : goal.returns

@@ -4,7 +4,6 @@ use Rattle.storage.specs.Filled.{filled_part}
 use native.Mathlib.Omega.{arith}
 use Prim.Native.Nat.{◌-◌}
 use lib.ListN.{length}
-use borrow.Author.Rules.{rules}
 use Rattle.legendre_analysis.proofs.division.divide_degree.Goals as goal
 
 pub returns-then-factor : goal.returns-then-factor

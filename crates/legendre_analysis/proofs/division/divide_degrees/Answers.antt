@@ -1,12 +1,10 @@
 -- `division::divide_degrees` meets its contract: the degrees below n are divided. Assumes nothing.
-use Rattle.legendre_analysis.specs.Division.{divided_cell, degrees_divided}
-use Rattle.storage.specs.Triangle.{row_start, along, row_start_zero, row_within}
-use Rattle.storage.specs.Elements.{from}
-use lib.Ieee.{nan}
-use Rattle.storage.specs.Filled.{Filled, filled_none, filled_to}
+use Rattle.legendre_analysis.specs.Division.{degrees_divided}
+use Rattle.storage.specs.Triangle.{row_start, row_start_zero, row_within}
+use Rattle.storage.specs.Filled.{filled_none, filled_to}
 use native.Mathlib.Omega.{arith}
 use mathlib.Core.Path.{◌≡◌, sym, ap}
-use Prim.Native.Nat.{◌+◌, ◌-◌, ◌≤◌}
+use Prim.Native.Nat.{◌+◌}
 use Rattle.legendre_analysis.proofs.division.divide_degrees.Goals as goal
 
 pub loop-n-init : goal.loop-n-init

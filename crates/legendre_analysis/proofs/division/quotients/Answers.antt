@@ -1,9 +1,9 @@
 -- `division::quotients` meets its contract: the entries so far are divided. Assumes nothing.
 use Rattle.legendre_analysis.specs.Division.{quotient_row}
-use Rattle.storage.specs.Filled.{Filled, filled_none, filled_more, filled_to, filled_after}
+use Rattle.storage.specs.Filled.{filled_none, filled_more, filled_to, filled_after}
 use lib.Ieee.{nan}
 use native.Mathlib.Omega.{arith}
-use Prim.Native.Nat.{◌+◌, ◌-◌, ◌≤◌}
+use Prim.Native.Nat.{◌+◌}
 use Rattle.legendre_analysis.proofs.division.quotients.Goals as goal
 
 pub loop-m-init : goal.loop-m-init

@@ -1,9 +1,7 @@
 -- `division::quotients` meets its contract: the entries so far are divided. Assumes nothing.
 use Rattle.legendre_analysis.specs.Division.{quotient_row}
-use Rattle.storage.specs.Filled.{Filled, filled_none, filled_more, filled_to, filled_after}
-use lib.Ieee.{nan}
-use native.Mathlib.Omega.{arith}
-use Prim.Native.Nat.{◌+◌, ◌-◌, ◌≤◌}
+use Rattle.storage.specs.Filled.{Filled}
+use Prim.Native.Nat.{◌-◌, ◌≤◌}
 use Rattle.legendre_analysis.proofs.division.quotients.Given as goal
 
 abbrev pub invariant-loop-m : goal.invariant-loop-m

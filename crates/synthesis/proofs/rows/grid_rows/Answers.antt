@@ -1,14 +1,13 @@
 -- `rows::grid_rows` meets its contract: the rows above row i are written. Assumes nothing.
-use Rattle.storage.specs.Rectangle.{by_rows, by_rows_more}
-use Rattle.synthesis.specs.Rows.{rows_value, row_at, room_kept}
+use Rattle.storage.specs.Rectangle.{by_rows_more}
+use Rattle.synthesis.specs.Rows.{row_at, room_kept}
 use Rattle.storage.specs.Elements.{from}
 use lib.Ieee.{nan}
-use Rattle.storage.specs.Filled.{Filled, filled_none, filled_to}
+use Rattle.storage.specs.Filled.{filled_none, filled_to}
 use native.Mathlib.Nat.{mul-le-mul_right}
 use native.Mathlib.Omega.{arith}
 use mathlib.Core.Path.{◌≡◌, refl, ap, ◌∙◌}
-use Prim.Native.Nat.{ℕ, ◌-◌, ◌*◌, ◌≤◌}
-use lib.ListN.{length}
+use Prim.Native.Nat.{ℕ, ◌*◌}
 use Rattle.synthesis.proofs.rows.grid_rows.Goals as goal
 
 pub loop-i-init : goal.loop-i-init

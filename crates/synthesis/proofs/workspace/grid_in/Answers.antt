@@ -10,7 +10,6 @@ use native.Mathlib.Omega.{arith}
 use mathlib.Core.Path.{sym}
 use Prim.Native.Nat.{◌-◌}
 use lib.ListN.{length}
-use borrow.Author.Rules.{rules}
 use Rattle.synthesis.proofs.workspace.grid_in.Goals as goal
 
 pub tables-requires : goal.tables-requires
@@ -46,7 +45,8 @@ grid_rows-requires c =
     let k = q.accepted in
     let long = c.tables.auto.work in
     let f = c.factors.ensures in
-    let d = c.sectorals.ensures in record { row_room = record {
+    let d = c.sectorals.ensures in record {
+      row_room = record {
         top = k.tables.top;
         of_a = omega (arith, k.room_work, long);
         of_b = omega (arith, c.b-1.given, k.tables.c, k.room_work, long);
@@ -60,7 +60,14 @@ grid_rows-requires c =
         of_p = q.nmax_in_bounds_2_2;
         of_x = q.nmax_in_bounds_2_3;
         of_y = q.nmax_in_bounds_2_4;
-      }; filled_1 = filled_self d; filled_2 = omega (arith, k.pairs); filled_3 = omega (arith, k.orders); filled_4 = k.room_out; rows_bound_1 = k.few_rows; rows_bound_2 = k.few_longitudes }
+      };
+      filled_1 = filled_self d;
+      filled_2 = omega (arith, k.pairs);
+      filled_3 = omega (arith, k.orders);
+      filled_4 = k.room_out;
+      rows_bound_1 = k.few_rows;
+      rows_bound_2 = k.few_longitudes;
+    }
 
 pub returns : goal.returns
 returns c =
