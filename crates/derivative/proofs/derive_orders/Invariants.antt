@@ -10,7 +10,7 @@ use Prim.Native.Nat.{ℕ, ◌+◌, ◌-◌, ◌≤◌}
 use Rattle.derivative.proofs.derive_orders.Given as goal
 
 abbrev pub invariant-loop-m : goal.invariant-loop-m
-invariant-loop-m l =     (1 ≤ l.m) × (l.m ≤ l.n) × Filled (l.at + 1) (derived_above l.n (from l.wat l.w nan) (from l.at l.src nan)) (l.m - 1) l.initial.dst l.dst
+invariant-loop-m l = (1 ≤ l.m) × (l.m ≤ l.n) × Filled (l.at + 1) (derived_above l.n (from l.wat l.w nan) (from l.at l.src nan)) (l.m - 1) l.initial.dst l.dst
 
 abbrev pub decreases-loop-m : goal.decreases-loop-m
 decreases-loop-m l = l.n - l.m

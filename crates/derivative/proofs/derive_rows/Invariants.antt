@@ -11,7 +11,7 @@ use lib.ListN.{length}
 use Rattle.derivative.proofs.derive_rows.Given as goal
 
 abbrev pub invariant-loop-n : goal.invariant-loop-n
-invariant-loop-n l =     (l.at ≡ row_start l.n) × (l.n ≤ l.nmax + 1) × (length l.w ≡ length l.initial.w) × Filled 0 (along (d_cell (cells l.src nan))) (row_start l.n) l.initial.dst l.dst
+invariant-loop-n l = (l.at ≡ row_start l.n) × (l.n ≤ l.nmax + 1) × (length l.w ≡ length l.initial.w) × Filled 0 (along (d_cell (cells l.src nan))) (row_start l.n) l.initial.dst l.dst
 
 abbrev pub decreases-loop-n : goal.decreases-loop-n
 decreases-loop-n l = l.nmax + 1 - l.n

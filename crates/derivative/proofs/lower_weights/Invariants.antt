@@ -11,7 +11,7 @@ use Prim.Native.Nat.{ℕ, ◌+◌, ◌-◌, ◌≤◌}
 use Rattle.derivative.proofs.lower_weights.Given as goal
 
 abbrev pub invariant-loop-m : goal.invariant-loop-m
-invariant-loop-m l =     (1 ≤ l.m) × (l.m ≤ l.n) × (l.mf ≡ of_whole l.m) × (l.lower ≡ lower_of l.n l.m) × Filled (l.at + 1) (weight_above l.n) (l.m - 1) l.initial.w l.w
+invariant-loop-m l = (1 ≤ l.m) × (l.m ≤ l.n) × (l.mf ≡ of_whole l.m) × (l.lower ≡ lower_of l.n l.m) × Filled (l.at + 1) (weight_above l.n) (l.m - 1) l.initial.w l.w
 
 abbrev pub decreases-loop-m : goal.decreases-loop-m
 decreases-loop-m l = l.n - l.m

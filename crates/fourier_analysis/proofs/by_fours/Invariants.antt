@@ -9,7 +9,7 @@ use Prim.Native.Nat.{◌+◌, ◌-◌, ◌*◌, ◌≤◌}
 use Rattle.fourier_analysis.proofs.by_fours.Given as goal
 
 abbrev pub invariant-loop-m : goal.invariant-loop-m
-invariant-loop-m l =     (l.m ≤ l.count) × (l.k ≡ l.m * l.stride) × Filled 0 (by_rows (pair_from l.values l.trig l.at l.longitudes) 2) (l.m * 2) l.initial.sums l.sums
+invariant-loop-m l = (l.m ≤ l.count) × (l.k ≡ l.m * l.stride) × Filled 0 (by_rows (pair_from l.values l.trig l.at l.longitudes) 2) (l.m * 2) l.initial.sums l.sums
 
 abbrev pub decreases-loop-m : goal.decreases-loop-m
 decreases-loop-m l = l.count - l.m

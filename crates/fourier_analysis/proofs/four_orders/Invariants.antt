@@ -7,7 +7,7 @@ use Prim.Native.Nat.{◌-◌, ◌≤◌}
 use Rattle.fourier_analysis.proofs.four_orders.Given as goal
 
 abbrev pub invariant-loop-j : goal.invariant-loop-j
-invariant-loop-j l =     (l.j ≤ l.longitudes) × FourOrders l.values l.trig l.at l.k l.stride l.j l.a l.b l.c l.d l.e l.f l.g l.h
+invariant-loop-j l = (l.j ≤ l.longitudes) × FourOrders l.values l.trig l.at l.k l.stride l.j l.a l.b l.c l.d l.e l.f l.g l.h
 
 abbrev pub decreases-loop-j : goal.decreases-loop-j
 decreases-loop-j l = l.longitudes - l.j

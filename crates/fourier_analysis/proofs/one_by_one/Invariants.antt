@@ -10,7 +10,7 @@ use Prim.Native.Nat.{ℕ, ◌+◌, ◌-◌, ◌*◌, ◌≤◌}
 use Rattle.fourier_analysis.proofs.one_by_one.Given as goal
 
 abbrev pub invariant-loop-m : goal.invariant-loop-m
-invariant-loop-m l =     ((l.first ≤ l.m) × (l.m ≤ l.nmax + 1)) × (l.k ≡ l.m * l.stride) × Filled 0 (by_rows (pair_from l.values l.trig l.at l.longitudes) 2) (l.m * 2) l.initial.sums l.sums
+invariant-loop-m l = ((l.first ≤ l.m) × (l.m ≤ l.nmax + 1)) × (l.k ≡ l.m * l.stride) × Filled 0 (by_rows (pair_from l.values l.trig l.at l.longitudes) 2) (l.m * 2) l.initial.sums l.sums
 
 abbrev pub decreases-loop-m : goal.decreases-loop-m
 decreases-loop-m l = l.nmax + 1 - l.m

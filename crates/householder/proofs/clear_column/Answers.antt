@@ -20,5 +20,9 @@ returns c =
     let if1 = c.if-size in
     let norm = c.norm-size in
     let row = c.row-at in
-    let pre = c.requires in record { q_after = cleared _ _ _ _ row.ensures.is (omega (arith, pre)) norm.ensures if1.false vector.ensures (omega (arith, pre))
-          reflect.ensures.fact_1 accumulate.ensures.fact_1; kept_1 = reflect.ensures.fact_2; kept_2 = accumulate.ensures.fact_2 }
+    let pre = c.requires in record {
+      q_after = cleared _ _ _ _ row.ensures.is (omega (arith, pre)) norm.ensures if1.false vector.ensures (omega (arith, pre))
+          reflect.ensures.fact_1 accumulate.ensures.fact_1;
+      kept_1 = reflect.ensures.fact_2;
+      kept_2 = accumulate.ensures.fact_2;
+    }

@@ -10,7 +10,7 @@ use Rattle.householder_within.specs.Within.{held_within, room_kept}
 use Rattle.householder_within.proofs.reflections.Given as goal
 
 abbrev pub invariant-loop-k : goal.invariant-loop-k
-invariant-loop-k l =     (l.k ≤ l.n)
+invariant-loop-k l = (l.k ≤ l.n)
     × (length l.v ≡ length l.initial.v)
     × (length l.p ≡ length l.initial.p)
     × Kept (l.at + l.n * l.n) l.initial.w l.w

@@ -20,13 +20,11 @@ b_table-requires c =
 
 pub returns-in-Refused : goal.returns-in-Refused
 returns-in-Refused c =
-
     let all = new_promise (record { answers = sym c.in-Refused.is ∙ c.room_check.ensures; leaves_a = refl; leaves_b = refl }) in
     record { value = all.0; a_after = all.1.0; b_after = all.1.1 }
 
 pub returns-in-Done : goal.returns-in-Done
 returns-in-Done c =
-
     let all = new_promise (
     record {
       answers =

@@ -9,20 +9,17 @@ use Rattle.lengths.proofs.basin_kernel.Goals as goal
 
 pub returns-then-lmax-gt-MAX_DEGREE : goal.returns-then-lmax-gt-MAX_DEGREE
 returns-then-lmax-gt-MAX_DEGREE c =
-
     let all = promised (size_refused (refused_then _ _ (too_large (omega arith)))) in
     record { value = all.0; lengths_after = all.1 }
 
 pub returns-then-nodes-gt-MAX_REGION_NODES : goal.returns-then-nodes-gt-MAX_REGION_NODES
 returns-then-nodes-gt-MAX_REGION_NODES c =
-
     let all = promised (size_refused (done_then (small_enough (omega arith)) (too_large (omega arith)))) in
     record { value = all.0; lengths_after = all.1 }
 
 pub returns : goal.returns
 unfolding integrals
 returns c =
-
     let all = promised
     (told_past (done_then (small_enough (omega arith)) (small_enough (omega arith)))
     (kernel_told _ _ c.product-integrals.ensures.fact_1 c.entries-size.ensures.is) c.tell.ensures) in

@@ -7,13 +7,11 @@ use Rattle.lengths.proofs.degree_amplitudes.Goals as goal
 
 pub returns-then-nmax-gt-MAX_DEGREE : goal.returns-then-nmax-gt-MAX_DEGREE
 returns-then-nmax-gt-MAX_DEGREE c =
-
     let all = promised (size_refused (too_large (omega arith))) in
     record { value = all.0; lengths_after = all.1 }
 
 pub returns : goal.returns
 unfolding amplitudes_lengths
 returns c =
-
     let all = promised (told_past (small_enough (omega arith)) (cc) c.tell.ensures) in
     record { value = all.0; lengths_after = all.1 }

@@ -8,19 +8,16 @@ use Rattle.lengths.proofs.grid.Goals as goal
 
 pub returns-then-rows-gt-MAX_LINES : goal.returns-then-rows-gt-MAX_LINES
 returns-then-rows-gt-MAX_LINES c =
-
     let all = promised (size_refused (refused_then _ _ (too_large (omega arith)))) in
     record { value = all.0; lengths_after = all.1 }
 
 pub returns-then-longitudes-gt-MAX_LINES : goal.returns-then-longitudes-gt-MAX_LINES
 returns-then-longitudes-gt-MAX_LINES c =
-
     let all = promised (size_refused (done_then (small_enough (omega arith)) (refused_then _ _ (too_large (omega arith))))) in
     record { value = all.0; lengths_after = all.1 }
 
 pub returns-then-nmax-gt-MAX_DEGREE : goal.returns-then-nmax-gt-MAX_DEGREE
 returns-then-nmax-gt-MAX_DEGREE c =
-
     let all = promised (size_refused (done_then (small_enough (omega arith)) (done_then (small_enough (omega arith)) (too_large (omega arith))))) in
     record { value = all.0; lengths_after = all.1 }
 

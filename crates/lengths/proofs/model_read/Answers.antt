@@ -20,13 +20,11 @@ overflow_add-told-in-Model c = omega (arith, size_within c.in-Model.h.date c.hea
 
 pub returns-in-Refused : goal.returns-in-Refused
 returns-in-Refused c =
-
     let all = promised (size_refused (ap (λ (r : Reading). read_sizes r) (sym c.in-Refused.is ∙ c.head.ensures))) in
     record { value = all.0; lengths_after = all.1 }
 
 pub returns-in-Model : goal.returns-in-Model
 returns-in-Model c =
-
     let head = c.head in
     let entries = c.entries-size in
     let head_size_lem = c.head_size-start in

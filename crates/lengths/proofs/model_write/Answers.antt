@@ -8,7 +8,6 @@ use Rattle.lengths.proofs.model_write.Goals as goal
 
 pub returns-then-nmax-gt-MAX_DEGREE : goal.returns-then-nmax-gt-MAX_DEGREE
 returns-then-nmax-gt-MAX_DEGREE c =
-
     let all = promised (size_refused (too_large (omega arith))) in
     record { value = all.0; lengths_after = all.1 }
 

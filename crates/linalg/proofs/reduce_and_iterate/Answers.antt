@@ -47,5 +47,10 @@ returns c =
     let done =
     iterated a.n a.a.now c.reduce.new.values work c.reduce.new.vectors made.filled made.filled_2 made.vectors_after it
     (omega arith) (omega arith) in
-    let lent = (lent_kept e work it.kept.of_e (omega arith)).long in record { filled = solved_values a.n a.a.now d e q done made.filled (omega arith); filled_2 = solved_vectors a.n a.a.now d e q done c.transpose.ensures (filled_to c.copy.ensures pre.fact_2)
-            (kept_then made.kept_2 it.kept.of_q) (omega arith) (omega arith); kept = work_kept a.n e made.kept_1 c.transpose.ensures it.kept.of_e (omega arith); value = solved_convergence a.n a.a.now d e q done }
+    let lent = (lent_kept e work it.kept.of_e (omega arith)).long in record {
+      filled = solved_values a.n a.a.now d e q done made.filled (omega arith);
+      filled_2 = solved_vectors a.n a.a.now d e q done c.transpose.ensures (filled_to c.copy.ensures pre.fact_2)
+          (kept_then made.kept_2 it.kept.of_q) (omega arith) (omega arith);
+      kept = work_kept a.n e made.kept_1 c.transpose.ensures it.kept.of_e (omega arith);
+      value = solved_convergence a.n a.a.now d e q done;
+    }

@@ -44,8 +44,12 @@ returns-in-Refused-check_body c =
     let head = c.head in
     let table_size_lem = c.table_size-count in
     let head_size_lem = c.head_size-start in
-    let check-body = c.check_body in record { value = read_fault _ _ _ _
-          (refused_by_body _ _ head.ensures _ c.in-Model.is _ table_size_lem.ensures _ head_size_lem.ensures _ check-body.ensures _ c.in-Refused-check_body.is); c_after = refl; s_after = refl }
+    let check-body = c.check_body in record {
+      value = read_fault _ _ _ _
+          (refused_by_body _ _ head.ensures _ c.in-Model.is _ table_size_lem.ensures _ head_size_lem.ensures _ check-body.ensures _ c.in-Refused-check_body.is);
+      c_after = refl;
+      s_after = refl;
+    }
 
 pub returns-else-s-count : goal.returns-else-s-count
 returns-else-s-count c =

@@ -53,6 +53,9 @@ returns c =
     let head_size_lem = c.head_size-start in
     let a = c.args in
     let write-head = c.write_head in
-    let write-body = c.write_body in record { value = write_done _ _ _ _ _ (omega arith) _ table_size_lem.ensures (omega arith) (omega arith) (omega (arith, head_size_lem.ensures)); out_after = file_parts
+    let write-body = c.write_body in record {
+      value = write_done _ _ _ _ _ (omega arith) _ table_size_lem.ensures (omega arith) (omega arith) (omega (arith, head_size_lem.ensures));
+      out_after = file_parts
           a.out.now write-head.new.out write-body.new.out a.head a.c.now a.s.now _ head_size_lem.ensures write-head.ensures
-          write-body.ensures }
+          write-body.ensures;
+    }

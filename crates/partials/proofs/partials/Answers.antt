@@ -20,5 +20,9 @@ returns-in-Done c =
     let compute = c.compute in
     let a = c.args in
     let d = sym c.in-Done.is ∙ point-check.ensures in
-    let made = compute.ensures in record { value = one_point a.head.gm a.head.radius a.head.nmax a.c.now a.s.now a.trig.now a.r a.latitude.t a.latitude.u d made
-          (omega arith); work_unchanged = made.rest; work_len_unchanged = made.long }
+    let made = compute.ensures in record {
+      value = one_point a.head.gm a.head.radius a.head.nmax a.c.now a.s.now a.trig.now a.r a.latitude.t a.latitude.u d made
+          (omega arith);
+      work_unchanged = made.rest;
+      work_len_unchanged = made.long;
+    }

@@ -36,7 +36,7 @@ returns c =
     let scale-row = c.scale_row in
     let derive-row = c.derive_row in
     let a = c.args in
-    let even = c.row_sums-row.ensures.even_value in let north = c.row_sums-row.ensures.north_value in let east = c.row_sums-row.ensures.east_value in 
+    let even = c.row_sums-row.ensures.even_value in let north = c.row_sums-row.ensures.north_value in let east = c.row_sums-row.ensures.east_value in
     let p = from 0 scale-row.new.p nan in
     let d = from 0 derive-row.new.dst nan in
     let sums =

@@ -8,7 +8,7 @@ use lib.ListN.{length}
 use Rattle.point_sums.proofs.add_degrees.Given as goal
 
 abbrev pub invariant-loop-n : goal.invariant-loop-n
-invariant-loop-n l =     (l.n ≤ l.nmax + 1) × (length l.even ≡ length l.initial.even) × (length l.odd ≡ length l.initial.odd) × (length l.p ≡ length l.initial.p) × (length l.d ≡ length l.initial.d)
+invariant-loop-n l = (l.n ≤ l.nmax + 1) × (length l.even ≡ length l.initial.even) × (length l.odd ≡ length l.initial.odd) × (length l.p ≡ length l.initial.p) × (length l.d ≡ length l.initial.d)
     × DegreesBelow l.n l.at l.q l.t l.u l.k l.c l.s l.trig l.odd l.even l.sums
 
 abbrev pub decreases-loop-n : goal.decreases-loop-n

@@ -8,7 +8,7 @@ use Prim.Native.Nat.{◌+◌, ◌-◌, ◌≤◌, ◌<◌}
 use Rattle.ql.proofs.block_end.Given as goal
 
 abbrev pub invariant-loop-m : goal.invariant-loop-m
-invariant-loop-m l =     (l.l ≤ l.m) × (l.m < l.n) × (iterate_until (uncoupled l.d l.e) after (l.n - (l.m + 1)) l.m ≡ iterate_until (uncoupled l.d l.e) after (l.n - (l.l + 1)) l.l)
+invariant-loop-m l = (l.l ≤ l.m) × (l.m < l.n) × (iterate_until (uncoupled l.d l.e) after (l.n - (l.m + 1)) l.m ≡ iterate_until (uncoupled l.d l.e) after (l.n - (l.l + 1)) l.l)
 
 abbrev pub decreases-loop-m : goal.decreases-loop-m
 decreases-loop-m l = l.n - l.m

@@ -19,26 +19,29 @@ loop-l-init c = (
 )
 
 pub rounds-r-requires : goal.rounds-r-requires
-rounds-r-requires c = record { fact_1 = lists_kept c.loop-l.invariant.0 c.requires; fact_2 = c.loop-l-test.true; fact_3 = omega (
-      arith,
-      c.loop-l.invariant.2,
-      c.loop-l-test.true,
-      c.requires.of_q.small,
-    ) }
+rounds-r-requires c = record {
+  fact_1 = lists_kept c.loop-l.invariant.0 c.requires;
+  fact_2 = c.loop-l-test.true;
+  fact_3 = omega (
+    arith,
+    c.loop-l.invariant.2,
+    c.loop-l-test.true,
+    c.requires.of_q.small,
+  );
+}
 
 pub loop-l-preserved : goal.loop-l-preserved
-loop-l-preserved c =
-    (
-      all_kept c.loop-l.invariant.0 c.rounds-r.ensures.fact_1.kept,
-      omega arith,
-      omega (arith, c.rounds-r.ensures.fact_2, c.loop-l.invariant.2),
-      ap (iterate (rounds_at c.args.n) (c.loop-l.l + 1) c.args.n) (rounds_at_lem
-          c.args.n c.loop-l.l c.loop-l.done c.loop-l.settled _
-          c.rounds-r.ensures.fact_1.is c.both-settled.ensures)
-          ∙ sym (iterate_step (rounds_at c.args.n) c.loop-l.l c.args.n _
-          c.loop-l-test.true)
-          ∙ c.loop-l.invariant.3,
-    )
+loop-l-preserved c = (
+  all_kept c.loop-l.invariant.0 c.rounds-r.ensures.fact_1.kept,
+  omega arith,
+  omega (arith, c.rounds-r.ensures.fact_2, c.loop-l.invariant.2),
+  ap (iterate (rounds_at c.args.n) (c.loop-l.l + 1) c.args.n) (rounds_at_lem
+      c.args.n c.loop-l.l c.loop-l.done c.loop-l.settled _
+      c.rounds-r.ensures.fact_1.is c.both-settled.ensures)
+      ∙ sym (iterate_step (rounds_at c.args.n) c.loop-l.l c.args.n _
+      c.loop-l-test.true)
+      ∙ c.loop-l.invariant.3,
+)
 
 pub returns : goal.returns
 returns c =

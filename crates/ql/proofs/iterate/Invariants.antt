@@ -10,7 +10,7 @@ use Prim.Native.Nat.{◌+◌, ◌-◌, ◌*◌, ◌≤◌}
 use Rattle.ql.proofs.iterate.Given as goal
 
 abbrev pub invariant-loop-l : goal.invariant-loop-l
-invariant-loop-l l =     Kept₃ l.n l.initial.q l.d l.e l.q × (l.l ≤ l.n) × (l.done ≤ 100 * l.l)
+invariant-loop-l l = Kept₃ l.n l.initial.q l.d l.e l.q × (l.l ≤ l.n) × (l.done ≤ 100 * l.l)
     × (iterate (rounds_at l.n) l.l l.n (state (held l.n l.d l.e l.q) l.done l.settled) ≡ iteration l.n (held l.n l.initial.d l.initial.e l.initial.q))
 
 abbrev pub decreases-loop-l : goal.decreases-loop-l

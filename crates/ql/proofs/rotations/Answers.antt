@@ -22,24 +22,27 @@ returns-then-x c =
     }
 
 pub rotate_at-x-requires : goal.rotate_at-x-requires
-rotate_at-x-requires c = record { fact_1 = lists_kept c.loop-i.invariant.0
-      c.requires.fact_1; fact_2 = omega arith; fact_3 = c.requires.fact_2 }
+rotate_at-x-requires c = record {
+  fact_1 = lists_kept c.loop-i.invariant.0
+      c.requires.fact_1;
+  fact_2 = omega arith;
+  fact_3 = c.requires.fact_2;
+}
 
 pub loop-i-preserved : goal.loop-i-preserved
 unfolding broken_off
-loop-i-preserved c =
-    (
-      all_kept c.loop-i.invariant.0 c.rotate_at-x.ensures.kept,
-      omega arith,
-      ap (iterate_down broken_off (rotate_at c.args.n c.args.m)
-          c.args.l (c.loop-i.i - 1 - c.args.l))
-          c.rotate_at-x.ensures.is
-          ∙ sym (down_step broken_off (rotate_at c.args.n c.args.m)
-          c.args.l c.loop-i.i _
-          c.loop-i-test.true
-          c.if-x.false)
-          ∙ c.loop-i.invariant.2,
-    )
+loop-i-preserved c = (
+  all_kept c.loop-i.invariant.0 c.rotate_at-x.ensures.kept,
+  omega arith,
+  ap (iterate_down broken_off (rotate_at c.args.n c.args.m)
+      c.args.l (c.loop-i.i - 1 - c.args.l))
+      c.rotate_at-x.ensures.is
+      ∙ sym (down_step broken_off (rotate_at c.args.n c.args.m)
+      c.args.l c.loop-i.i _
+      c.loop-i-test.true
+      c.if-x.false)
+      ∙ c.loop-i.invariant.2,
+)
 
 pub returns : goal.returns
 unfolding rotations

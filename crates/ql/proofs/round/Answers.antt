@@ -11,11 +11,16 @@ rotations-x-requires c =
 
 pub close-requires : goal.close-requires
 close-requires c =
-    let k = c.rotations-x.ensures.kept in record { fact_1 = k.of_d; fact_2 = k.of_e; fact_3 = omega (
-            arith,
-            c.requires.fact_2,
-            c.requires.fact_3,
-          ); fact_4 = c.requires.fact_3 }
+    let k = c.rotations-x.ensures.kept in record {
+      fact_1 = k.of_d;
+      fact_2 = k.of_e;
+      fact_3 = omega (
+        arith,
+        c.requires.fact_2,
+        c.requires.fact_3,
+      );
+      fact_4 = c.requires.fact_3;
+    }
 
 pub returns : goal.returns
 returns c =

@@ -19,31 +19,38 @@ pub block_end-m-requires : goal.block_end-m-requires
 block_end-m-requires c = record { fact_1 = c.requires.fact_2; fact_2 = c.loop-k.invariant.0.of_d; fact_3 = c.loop-k.invariant.0.of_e }
 
 pub returns-then-m-l : goal.returns-then-m-l
-returns-then-m-l c = record { fact_1 = record {
+returns-then-m-l c = record {
+  fact_1 = record {
     is = sym (rounds_settled _ _ _ _ _ _ _ _ c.block_end-m.ensures.is c.loop-k-test.true
         c.if-m-l.true) ∙ c.loop-k.invariant.2;
     kept = c.loop-k.invariant.0;
-  }; fact_2 = omega arith }
+  };
+  fact_2 = omega arith;
+}
 
 pub round-requires : goal.round-requires
 round-requires c =
-    let b = c.block_end-m.ensures in record { fact_1 = lists_kept c.loop-k.invariant.0 c.requires.fact_1; fact_2 = omega
-            (arith, b.low, c.if-m-l.false); fact_3 = b.high }
+    let b = c.block_end-m.ensures in record {
+      fact_1 = lists_kept c.loop-k.invariant.0 c.requires.fact_1;
+      fact_2 = omega
+          (arith, b.low, c.if-m-l.false);
+      fact_3 = b.high;
+    }
 
 pub loop-k-preserved : goal.loop-k-preserved
-loop-k-preserved c =
-    (
-      all_kept c.loop-k.invariant.0 c.round.ensures.kept,
-      omega arith,
-      sym (rounds_more _ _ _ _ _ _ _ _
-          c.block_end-m.ensures.is
-          c.loop-k-test.true c.if-m-l.false
-          c.round.ensures.is) ∙ c.loop-k.invariant.2,
-    )
+loop-k-preserved c = (
+  all_kept c.loop-k.invariant.0 c.round.ensures.kept,
+  omega arith,
+  sym (rounds_more _ _ _ _ _ _ _ _
+      c.block_end-m.ensures.is
+      c.loop-k-test.true c.if-m-l.false
+      c.round.ensures.is) ∙ c.loop-k.invariant.2,
+)
 
 pub returns : goal.returns
 returns c =
-    let e : c.loop-k.k ≡ 100 = omega arith in record { fact_1 = record {
+    let e : c.loop-k.k ≡ 100 = omega arith in record {
+      fact_1 = record {
         is =
             ap (λ (j : ℕ). state (held c.args.n c.loop-k.d c.loop-k.e
             c.loop-k.q) (c.args.done + j) false) (sym e)
@@ -51,4 +58,6 @@ returns c =
             c.args.done c.loop-k.k _ c.loop-k-test.false)
             ∙ c.loop-k.invariant.2;
         kept = c.loop-k.invariant.0;
-      }; fact_2 = omega arith }
+      };
+      fact_2 = omega arith;
+    }

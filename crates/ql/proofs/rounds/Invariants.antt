@@ -10,7 +10,7 @@ use Prim.Native.Nat.{ℕ, ◌+◌, ◌-◌, ◌≤◌}
 use Rattle.ql.proofs.rounds.Given as goal
 
 abbrev pub invariant-loop-k : goal.invariant-loop-k
-invariant-loop-k l =     Kept₃ l.n l.initial.q l.d l.e l.q × (l.k ≤ 100)
+invariant-loop-k l = Kept₃ l.n l.initial.q l.d l.e l.q × (l.k ≤ 100)
     × (iterate_until settled_in (round_unless_alone l.n l.l) (100 - l.k) (state (held l.n l.d l.e l.q) (l.done + l.k) false) ≡ rounds l.n l.l (held l.n l.initial.d l.initial.e l.initial.q) l.done)
 
 abbrev pub decreases-loop-k : goal.decreases-loop-k

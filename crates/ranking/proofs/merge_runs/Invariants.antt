@@ -12,7 +12,7 @@ use Rattle.ranking.specs.Merging.{head_there, tail_there}
 use Rattle.ranking.proofs.merge_runs.Given as goal
 
 abbrev pub invariant-loop-k : goal.invariant-loop-k
-invariant-loop-k l =     (l.i ≤ l.mid) × (l.mid ≤ l.j) × (l.j ≤ l.hi) × (l.i + l.j ≡ l.k + l.mid) × (l.lo ≤ l.k)
+invariant-loop-k l = (l.i ≤ l.mid) × (l.mid ≤ l.j) × (l.j ≤ l.hi) × (l.i + l.j ≡ l.k + l.mid) × (l.lo ≤ l.k)
     × Filled l.lo (from 0 (merge (key_before l.keys) (slice l.lo l.mid l.src) (slice l.mid l.hi l.src)) 0) (l.k - l.lo) l.initial.dst l.dst
     × (drop (l.k - l.lo) (merge (key_before l.keys) (slice l.lo l.mid l.src) (slice l.mid l.hi l.src)) ≡ merge (key_before l.keys) (slice l.i l.mid l.src) (slice l.j l.hi l.src))
 

@@ -31,8 +31,15 @@ pass-requires-in-loop-width c =
     let p = c.requires in
     let long = c.count_up.ensures.long in
     let first = c.pass.ensures in
-    let more = c.loop-width-test.true in record { le_width_1 = omega (arith, i.0); le_width_2 = omega (arith, p.fact_1, more); le_width_3 = omega (arith, p.fact_1); le_width_4 = omega (arith, p.fact_3, i.3, first.long); le_width_5 = omega
-                  (arith, p.fact_2, i.2.long, long); filled = filled_self first }
+    let more = c.loop-width-test.true in record {
+      le_width_1 = omega (arith, i.0);
+      le_width_2 = omega (arith, p.fact_1, more);
+      le_width_3 = omega (arith, p.fact_1);
+      le_width_4 = omega (arith, p.fact_3, i.3, first.long);
+      le_width_5 = omega
+          (arith, p.fact_2, i.2.long, long);
+      filled = filled_self first;
+    }
 
 pub loop-width-preserved : goal.loop-width-preserved
 loop-width-preserved c =
@@ -50,6 +57,9 @@ loop-width-preserved c =
 
 pub returns : goal.returns
 returns c =
-    let i = c.loop-width.invariant in record { filled = all_ranked c.args.keys.now c.loop-width.width
+    let i = c.loop-width.invariant in record {
+      filled = all_ranked c.args.keys.now c.loop-width.width
           c.loop-width-test.false (filled_again c.count_up.ensures i.2 (le_refl (length
-          c.args.keys.now))); spare_len_unchanged = i.3 }
+          c.args.keys.now)));
+      spare_len_unchanged = i.3;
+    }

@@ -7,7 +7,6 @@ use Rattle.regions.proofs.concentration_matrix.Goals as goal
 
 pub fill_matrix-requires : goal.fill_matrix-requires
 fill_matrix-requires c =
-
     let all = matrix_accepted _ _ _ _ _ _ _ _ _ (sym c.in-Done.is ∙ c.matrix_check.ensures) in
     record { fact_1 = all.0; fact_2 = all.1 }
 

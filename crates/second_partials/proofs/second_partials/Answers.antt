@@ -15,5 +15,9 @@ returns-in-Refused c = record { value = second_refused _ _ (sym c.in-Refused.is 
 pub returns-in-Done : goal.returns-in-Done
 returns-in-Done c =
     let a = c.args in
-    let made = c.compute.ensures in record { value = one_second a.head.gm a.head.radius a.head.nmax a.c.now a.s.now a.trig.now a.r a.latitude.t a.latitude.u
-          (sym c.in-Done.is ∙ c.point_check.ensures) made (omega arith); work_unchanged = made.rest; work_len_unchanged = made.long }
+    let made = c.compute.ensures in record {
+      value = one_second a.head.gm a.head.radius a.head.nmax a.c.now a.s.now a.trig.now a.r a.latitude.t a.latitude.u
+          (sym c.in-Done.is ∙ c.point_check.ensures) made (omega arith);
+      work_unchanged = made.rest;
+      work_len_unchanged = made.long;
+    }

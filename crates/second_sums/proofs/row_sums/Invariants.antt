@@ -15,11 +15,11 @@ use Prim.Native.Nat.{◌+◌, ◌-◌, ◌≤◌}
 use Rattle.second_sums.proofs.row_sums.Given as goal
 
 abbrev pub invariant-loop-m : goal.invariant-loop-m
-invariant-loop-m l =     let f = scaled_pair l.rows l.r in
+invariant-loop-m l = let f = scaled_pair l.rows l.r in
     let v' = from l.at l.w nan in
     (l.m ≤ l.count) × (l.mf ≡ of_whole l.m) × Window l.n v' f l.m l.p l.above l.behind l.d
     × OrdersBelow f (derived_row l.n v' f) (derived_row l.n v' (derived_row l.n v' f)) (from l.at l.c nan) (from l.at l.s nan) (cosine_from l.k l.trig) (sine_from l.k l.trig) l.m
     l.v l.lat l.latlat l.lon l.lonlon l.latlon
 
 abbrev pub decreases-loop-m : goal.decreases-loop-m
-decreases-loop-m l =     l.count - l.m
+decreases-loop-m l = l.count - l.m

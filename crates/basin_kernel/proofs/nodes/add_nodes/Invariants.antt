@@ -12,7 +12,7 @@ use lib.ListN.{length}
 use Rattle.basin_kernel.proofs.nodes.add_nodes.Given as goal
 
 abbrev pub invariant-loop-v : goal.invariant-loop-v
-invariant-loop-v l =     (l.v ≤ l.nodes) × (length l.even ≡ length l.initial.even) × (length l.odd ≡ length l.initial.odd) × TablesIn l.lmax l.total l.work × Kept (3 * l.total) l.initial.work l.work
+invariant-loop-v l = (l.v ≤ l.nodes) × (length l.even ≡ length l.initial.even) × (length l.odd ≡ length l.initial.odd) × TablesIn l.lmax l.total l.work × Kept (3 * l.total) l.initial.work l.work
     × Filled 0 (along (kernel_sum l.lmax l.weights l.latitudes l.marks l.s l.c false l.v)) (table_size l.lmax) l.initial.kc l.kc
     × Filled 0 (along (kernel_sum l.lmax l.weights l.latitudes l.marks l.s l.c true l.v)) (table_size l.lmax) l.initial.ks l.ks
 

@@ -7,7 +7,7 @@ use Prim.Native.Nat.{◌-◌, ◌≤◌}
 use Rattle.basin_kernel.proofs.rows.add_row.Given as goal
 
 abbrev pub invariant-loop-m : goal.invariant-loop-m
-invariant-loop-m l =     (l.first ≤ l.m) × (l.m ≤ l.count) × Filled l.at (added_row l.first l.at l.start l.weight l.q l.r l.integrals l.initial.sums) l.m l.initial.sums l.sums
+invariant-loop-m l = (l.first ≤ l.m) × (l.m ≤ l.count) × Filled l.at (added_row l.first l.at l.start l.weight l.q l.r l.integrals l.initial.sums) l.m l.initial.sums l.sums
 
 abbrev pub decreases-loop-m : goal.decreases-loop-m
 decreases-loop-m l = l.count - l.m

@@ -37,5 +37,9 @@ returns c =
     c.rank.ensures.filled (omega (arith, c.requires.runs_in_4, c.requires.runs_in_5)) in
     let g = run_at a.lmax a.order.now a.starts.now a.work.now in
     let l = c.write_vectors.new.vectors in
-    let made = c.write_functions.ensures in record { filled_1 = picked_orders rk a.order.now made.fact_1; filled_2 = picked_numbers rk a.at a.work.now made.fact_2; filled_3 = subst (λ (t : List ℕ). Filled 0 (from 0 (joined g t) nan) (length (joined g t)) a.vectors.now l) rk.is
-            c.write_vectors.ensures }
+    let made = c.write_functions.ensures in record {
+      filled_1 = picked_orders rk a.order.now made.fact_1;
+      filled_2 = picked_numbers rk a.at a.work.now made.fact_2;
+      filled_3 = subst (λ (t : List ℕ). Filled 0 (from 0 (joined g t) nan) (length (joined g t)) a.vectors.now l) rk.is
+          c.write_vectors.ensures;
+    }

@@ -15,7 +15,7 @@ use Rattle.cap_functions.specs.CapRanked.{run_at, run_more, run_within, run_fill
 use Rattle.cap_functions.proofs.ranked.write_vectors.Given as goal
 
 abbrev pub invariant-loop-i : goal.invariant-loop-i
-invariant-loop-i l =     (l.i ≤ l.n) × (l.v ≡ length (joined (run_at l.lmax l.order l.starts l.work) (take l.i l.places)))
+invariant-loop-i l = (l.i ≤ l.n) × (l.v ≡ length (joined (run_at l.lmax l.order l.starts l.work) (take l.i l.places)))
     × Filled 0 (from 0 (joined (run_at l.lmax l.order l.starts l.work) (take l.n l.places)) nan) l.v l.initial.vectors l.vectors
 
 abbrev pub decreases-loop-i : goal.decreases-loop-i

@@ -12,7 +12,7 @@ use Prim.Native.Nat.{ℕ, ◌+◌, ◌-◌, ◌≤◌}
 use Rattle.caps.proofs.columns.column.Given as goal
 
 abbrev pub invariant-loop-i : goal.invariant-loop-i
-invariant-loop-i l =     (l.i ≤ l.k) × (l.at ≡ idx (l.m + l.i) l.m) × (l.q1 ≡ q (from 0 l.work nan) (from l.total l.work nan) l.t l.m l.i)
+invariant-loop-i l = (l.i ≤ l.k) × (l.at ≡ idx (l.m + l.i) l.m) × (l.q1 ≡ q (from 0 l.work nan) (from l.total l.work nan) l.t l.m l.i)
     × (l.q2 ≡ before (from 0 l.work nan) (from l.total l.work nan) l.t l.m l.i) × Filled 0 (column_cell (from 0 l.work nan) (from l.total l.work nan) l.t l.rescale l.m) l.i l.initial.col l.col
 
 abbrev pub decreases-loop-i : goal.decreases-loop-i

@@ -13,8 +13,13 @@ loop-i-init c = (omega arith, omega arith, filled_to filled_none (omega arith))
 
 pub row-requires : goal.row-requires
 row-requires c =
-    let up = mul-le-mul_right c.args.k c.loop-i-test.true in record { fact_1 = c.requires.fact_1; fact_2 = c.loop-i-test.true; fact_3 = c.requires.fact_2; fact_4 = omega
-              (arith, up, c.loop-i.invariant.1, c.loop-i.invariant.2.long, c.requires.fact_3) }
+    let up = mul-le-mul_right c.args.k c.loop-i-test.true in record {
+      fact_1 = c.requires.fact_1;
+      fact_2 = c.loop-i-test.true;
+      fact_3 = c.requires.fact_2;
+      fact_4 = omega
+          (arith, up, c.loop-i.invariant.1, c.loop-i.invariant.2.long, c.requires.fact_3);
+    }
 
 pub overflow_add-at : goal.overflow_add-at
 overflow_add-at c = let up = mul-le-mul_right c.args.k

@@ -35,9 +35,13 @@ loop-i-init c = (
 
 pub node-requires : goal.node-requires
 node-requires c =
-    let r = c.requires.sectoral_value_3 in record { fact_1 = c.requires.sectoral_value_1; fact_2 = c.requires.sectoral_value_2; fact_3 = room_kept r
-            c.loop-i.invariant.1
-            (c.loop-i.invariant.2.long ∙ c.clear.ensures.long) }
+    let r = c.requires.sectoral_value_3 in record {
+      fact_1 = c.requires.sectoral_value_1;
+      fact_2 = c.requires.sectoral_value_2;
+      fact_3 = room_kept r
+          c.loop-i.invariant.1
+          (c.loop-i.invariant.2.long ∙ c.clear.ensures.long);
+    }
 
 pub overflow_add-i : goal.overflow_add-i
 overflow_add-i c = omega (arith, c.loop-i-test.true, c.requires.sectoral_value_3.small, c.requires.sectoral_value_5)
@@ -67,6 +71,9 @@ loop-i-preserved c =
 
 pub returns : goal.returns
 returns c =
-    let a = c.args in record { fact_1 = filled_again c.clear.ensures
+    let a = c.args in record {
+      fact_1 = filled_again c.clear.ensures
           (nodes_all a.lmax a.m a.k a.total a.at a.x0 a.weights.now a.latitudes.now (omega arith)
-          c.loop-i.invariant.2) (le_refl (a.k * a.k)); fact_2 = c.loop-i.invariant.1 }
+          c.loop-i.invariant.2) (le_refl (a.k * a.k));
+      fact_2 = c.loop-i.invariant.1;
+    }

@@ -14,7 +14,7 @@ use lib.ListN.{length}
 use Rattle.caps.proofs.nodes.concentration.Given as goal
 
 abbrev pub invariant-loop-i : goal.invariant-loop-i
-invariant-loop-i l =     (l.i ≤ l.lmax + 1) × (length l.col ≡ length l.initial.col) × Filled l.at (by_rows (partial_cell l.m l.x0 l.weights l.latitudes l.i) l.k) (l.k * l.k) l.initial.work l.work
+invariant-loop-i l = (l.i ≤ l.lmax + 1) × (length l.col ≡ length l.initial.col) × Filled l.at (by_rows (partial_cell l.m l.x0 l.weights l.latitudes l.i) l.k) (l.k * l.k) l.initial.work l.work
 
 abbrev pub decreases-loop-i : goal.decreases-loop-i
 decreases-loop-i l = l.lmax + 1 - l.i

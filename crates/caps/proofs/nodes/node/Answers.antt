@@ -16,5 +16,8 @@ add_node-requires c =
 
 pub returns : goal.returns
 returns c =
-    record { fact_1 = node_is _ _ _ _ _ _ _ c.column.ensures c.requires.fact_3.column
-          c.add_node.ensures; fact_2 = c.column.ensures.long }
+    record {
+      fact_1 = node_is _ _ _ _ _ _ _ c.column.ensures c.requires.fact_3.column
+          c.add_node.ensures;
+      fact_2 = c.column.ensures.long;
+    }

@@ -31,12 +31,15 @@ slice_bounds-add_row-count c = let up = mul-le-mul_right c.args.k
 
 pub add_row-requires : goal.add_row-requires
 add_row-requires c =
-    let up = mul-le-mul_right c.args.k c.loop-j-test.true in record { fact_1 = omega (arith, up, c.loop-j.invariant.1, c.requires.fact_3); fact_2 = omega (
+    let up = mul-le-mul_right c.args.k c.loop-j-test.true in record {
+      fact_1 = omega (arith, up, c.loop-j.invariant.1, c.requires.fact_3);
+      fact_2 = omega (
         arith,
         c.loop-j.invariant.2.long,
         c.clear.ensures.long,
         c.requires.fact_4,
-      ) }
+      );
+    }
 
 pub overflow_add-at : goal.overflow_add-at
 overflow_add-at c =

@@ -42,7 +42,7 @@ returns-in-Refused c =
     let a = c.args in
     let refused = sym c.in-Refused.is ∙ c.outputs_check.ensures in
     let p = cut_promise a.self a.c.now a.s.now a.cut a.outc.now a.outs.now {r = NotMade c.in-Refused.e} {x' = a.outc.now} {y' = a.outs.now} (
-      record { answers = rw (← c.smaller-top.ensures) (model_refused _ _ refused); leaves_c = refl; leaves_s = refl }) in
+    record { answers = rw (← c.smaller-top.ensures) (model_refused _ _ refused); leaves_c = refl; leaves_s = refl }) in
     record { value = p.0; outc_after = p.1.0; outs_after = p.1.1 }
 
 pub returns-in-Done : goal.returns-in-Done
@@ -55,9 +55,9 @@ returns-in-Done c =
     let z = c.table_size-size.ensures ∙ size_is _ (omega arith) in
     let head : Head = record { gm = a.self.gm; radius = a.self.radius; tide_system = a.self.tide_system; date = a.self.date; nmax = c.smaller-top.result } in
     let p = cut_promise a.self a.c.now a.s.now a.cut a.outc.now a.outs.now {r = Made head} {x' = c.copy.new.out} {y' = c.copy-in-Done.new.out} (
-      record {
-        answers = rw (← m) (model_made _ ok);
-        leaves_c = rw (← m) (filled_to c.copy.ensures z).is;
-        leaves_s = rw (← m) (filled_to c.copy-in-Done.ensures z).is;
-      }) in
+    record {
+      answers = rw (← m) (model_made _ ok);
+      leaves_c = rw (← m) (filled_to c.copy.ensures z).is;
+      leaves_s = rw (← m) (filled_to c.copy-in-Done.ensures z).is;
+    }) in
     record { value = p.0; outc_after = p.1.0; outs_after = p.1.1 }

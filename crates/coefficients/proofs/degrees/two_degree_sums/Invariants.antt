@@ -8,7 +8,7 @@ use Prim.Native.Nat.{ℕ, ◌+◌, ◌-◌, ◌≤◌}
 use Rattle.coefficients.proofs.degrees.two_degree_sums.Given as goal
 
 abbrev pub invariant-loop-order : goal.invariant-loop-order
-invariant-loop-order l =     (l.order ≤ l.count) × (l.first ≡ fold_left ◌⊕◌ (squares_from l.at l.c l.s) zero64 l.order) × (l.second ≡ fold_left ◌⊕◌ (squares_from l.next l.c l.s) zero64 l.order)
+invariant-loop-order l = (l.order ≤ l.count) × (l.first ≡ fold_left ◌⊕◌ (squares_from l.at l.c l.s) zero64 l.order) × (l.second ≡ fold_left ◌⊕◌ (squares_from l.next l.c l.s) zero64 l.order)
 
 abbrev pub decreases-loop-order : goal.decreases-loop-order
 decreases-loop-order l = l.count - l.order

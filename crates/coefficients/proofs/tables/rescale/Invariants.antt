@@ -9,7 +9,7 @@ use Prim.Native.Nat.{◌+◌, ◌-◌, ◌≤◌}
 use Rattle.coefficients.proofs.tables.rescale.Given as goal
 
 abbrev pub invariant-loop-n : goal.invariant-loop-n
-invariant-loop-n l =     (l.at ≡ row_start l.n)
+invariant-loop-n l = (l.at ≡ row_start l.n)
     × (l.n ≤ l.nmax + 1)
     × Filled 0 (along (rescaled_entry l.q l.t l.c)) (row_start l.n) l.initial.outc l.outc
     × Filled 0 (along (rescaled_entry l.q l.t l.s)) (row_start l.n) l.initial.outs l.outs

@@ -14,6 +14,9 @@ returns-then-out-lt3 c = let e = out_short 3 _ c.if-out-lt3.true in record { val
 
 pub returns : goal.returns
 returns c =
-    let e = out_done 3 _ c.if-out-lt3.false in record { value = rw (← e) refl; out_after = rw (← e) (c.store_three.ensures.is ∙ ap (λ (l : List Float). fill 0 (from 0 l nan) 3
+    let e = out_done 3 _ c.if-out-lt3.false in record {
+      value = rw (← e) refl;
+      out_after = rw (← e) (c.store_three.ensures.is ∙ ap (λ (l : List Float). fill 0 (from 0 l nan) 3
           c.args.out.now)
-          c.acceleration_neu-three.ensures) }
+          c.acceleration_neu-three.ensures);
+    }

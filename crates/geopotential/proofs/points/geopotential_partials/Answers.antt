@@ -13,7 +13,12 @@ pub returns : goal.returns
 returns c =
     let a = c.args in
     let f = c.partials_along in
-    let e = f.ensures.value ∙ one_check 4 4 a.nmax _ _ _ _ _ in record { value = rw (← e) c.answer_number.ensures; out_after = rw (← e)
-            (f.ensures.out_after
-            ∙ ap (λ (o : List Float). after f.result o a.out.now) (one_point a.gm a.radius a.nmax a.c.now a.s.now a.trig.now
-            a.r a.t a.u a.out.now)); work_unchanged = rw (← e) f.ensures.work_unchanged; work_len_unchanged = f.ensures.work_len_unchanged }
+    let e = f.ensures.value ∙ one_check 4 4 a.nmax _ _ _ _ _ in record {
+      value = rw (← e) c.answer_number.ensures;
+      out_after = rw (← e)
+          (f.ensures.out_after
+          ∙ ap (λ (o : List Float). after f.result o a.out.now) (one_point a.gm a.radius a.nmax a.c.now a.s.now a.trig.now
+          a.r a.t a.u a.out.now));
+      work_unchanged = rw (← e) f.ensures.work_unchanged;
+      work_len_unchanged = f.ensures.work_len_unchanged;
+    }

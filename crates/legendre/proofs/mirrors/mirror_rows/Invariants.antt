@@ -8,7 +8,7 @@ use Prim.Native.Nat.{◌+◌, ◌-◌, ◌≤◌}
 use Rattle.legendre.proofs.mirrors.mirror_rows.Given as goal
 
 abbrev pub invariant-loop-n : goal.invariant-loop-n
-invariant-loop-n l =     (l.at ≡ row_start l.n) × (l.n ≤ l.nmax + 1) × Filled 0 (along (mirrored l.shift l.initial.table)) (row_start l.n) l.initial.table l.table
+invariant-loop-n l = (l.at ≡ row_start l.n) × (l.n ≤ l.nmax + 1) × Filled 0 (along (mirrored l.shift l.initial.table)) (row_start l.n) l.initial.table l.table
 
 abbrev pub decreases-loop-n : goal.decreases-loop-n
 decreases-loop-n l = l.nmax + 1 - l.n

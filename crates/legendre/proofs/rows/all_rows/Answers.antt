@@ -54,8 +54,8 @@ loop-n-preserved c =
     let pmm = c.next_sectoral-pmm_odd in
     let e : loop.n + 1 + 1 ≡ loop.n + 2 = omega arith in
     let pmm2 : c.next_sectoral-pmm.result ≡ pmm.result ⊗ root_of (sectoral_ratio (loop.n + 1 + 1)) = rw e c.next_sectoral-pmm.ensures in
-    let q = c.row.ensures.filled in let p = c.row.ensures.filled_2 in 
-    let q2 = c.row-in-loop-n.ensures.filled in let p2 = c.row-in-loop-n.ensures.filled_2 in 
+    let q = c.row.ensures.filled in let p = c.row.ensures.filled_2 in
+    let q2 = c.row-in-loop-n.ensures.filled in let p2 = c.row-in-loop-n.ensures.filled_2 in
     let first = rows_below_more loop.invariant.3 powers q p (omega arith) (omega arith) (omega arith) (omega arith) refl refl pmm.ensures in (
       omega arith,
       omega arith,
@@ -76,7 +76,7 @@ pub returns : goal.returns
 returns c =
     let loop = c.loop-n in
     let powers = c.requires.filled in
-    let q = c.row-2.ensures.filled in let p = c.row-2.ensures.filled_2 in 
+    let q = c.row-2.ensures.filled in let p = c.row-2.ensures.filled_2 in
     let e : loop.n ≡ c.args.nmax = omega arith in
     let all = rows_below_more loop.invariant.3 powers q p (omega arith) (omega arith) (omega arith) (omega arith) refl refl refl in
     filled_to all.table (ap (λ (i : ℕ). row_start (i + 1)) e)

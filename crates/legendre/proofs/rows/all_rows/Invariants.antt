@@ -13,7 +13,7 @@ use Prim.Native.Nat.{ℕ, ◌+◌, ◌-◌, ◌≤◌}
 use Rattle.legendre.proofs.rows.all_rows.Given as goal
 
 abbrev pub invariant-loop-n : goal.invariant-loop-n
-invariant-loop-n l =     (l.n ≤ l.nmax + 1) × (length l.even ≡ length l.initial.even) × (length l.odd ≡ length l.initial.odd) × RowsBelow l.n l.at l.pmm l.t l.u l.a l.b l.odd l.even l.initial.p l.p
+invariant-loop-n l = (l.n ≤ l.nmax + 1) × (length l.even ≡ length l.initial.even) × (length l.odd ≡ length l.initial.odd) × RowsBelow l.n l.at l.pmm l.t l.u l.a l.b l.odd l.even l.initial.p l.p
 
 abbrev pub decreases-loop-n : goal.decreases-loop-n
 decreases-loop-n l = l.nmax - l.n

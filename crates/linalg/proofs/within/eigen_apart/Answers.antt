@@ -32,7 +32,7 @@ transpose-requires c =
     let eigen = c.eigen-r in
     let n = c.args.n in
     let w = c.args.w.now in
-    let values = eigen.ensures.filled in let vectors = eigen.ensures.filled_2 in let kept = eigen.ensures.kept in let ended = eigen.ensures.value in 
+    let values = eigen.ensures.filled in let vectors = eigen.ensures.filled_2 in let kept = eigen.ensures.kept in let ended = eigen.ensures.value in
     let m = length w - n * n in
     let w₁ = back (n * n) m w eigen.new.work in
     let long = back_long (n * n) m w eigen.new.work refl (omega (arith, c.requires)) kept.long in
@@ -45,7 +45,7 @@ returns c =
     let n = c.args.n in
     let w = c.args.w.now in
     let short = short_square n c.requires.fact_1 in
-    let values = eigen.ensures.filled in let vectors = eigen.ensures.filled_2 in let kept = eigen.ensures.kept in let ended = eigen.ensures.value in 
+    let values = eigen.ensures.filled in let vectors = eigen.ensures.filled_2 in let kept = eigen.ensures.kept in let ended = eigen.ensures.value in
     let y = eigen.new.work in
     let z = transpose.new.list in
     let m = length w - n * n in
@@ -53,7 +53,12 @@ returns c =
     let m₁ = length w₁ - n * n in
     let inside : n * n ≤ length w = omega (arith, c.requires) in
     let long = back_long (n * n) m w y refl inside kept.long in
-    let inside₁ : n * n ≤ length w₁ = omega (arith, c.requires, long) in record { fact_1 = apart_values n w c.copy.ensures short values; fact_2 = apart_vectors n w c.copy.ensures short m₁ w₁ vectors short transpose.ensures refl inside₁
-            (omega (arith, c.requires, long, lent_long (n * n) m₁ w₁ refl)); fact_3 = kept_then (back-kept (n * n) m w y refl inside kept.long (n * n + 4 * n) kept)
-              (kept_from (n * n + (n * n + 4 * n)) (omega arith)
-              (back-kept (n * n) m₁ w₁ z refl inside₁ transpose.ensures.long (n * n) (filled_kept transpose.ensures))); fact_4 = apart_convergence n w c.copy.ensures short ended }
+    let inside₁ : n * n ≤ length w₁ = omega (arith, c.requires, long) in record {
+      fact_1 = apart_values n w c.copy.ensures short values;
+      fact_2 = apart_vectors n w c.copy.ensures short m₁ w₁ vectors short transpose.ensures refl inside₁
+          (omega (arith, c.requires, long, lent_long (n * n) m₁ w₁ refl));
+      fact_3 = kept_then (back-kept (n * n) m w y refl inside kept.long (n * n + 4 * n) kept)
+          (kept_from (n * n + (n * n + 4 * n)) (omega arith)
+          (back-kept (n * n) m₁ w₁ z refl inside₁ transpose.ensures.long (n * n) (filled_kept transpose.ensures)));
+      fact_4 = apart_convergence n w c.copy.ensures short ended;
+    }

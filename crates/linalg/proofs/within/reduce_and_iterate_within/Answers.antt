@@ -46,5 +46,10 @@ returns c =
     let inside : n * n ≤ length w = omega (arith, c.requires, long) in
     let done =
     iterated n a values c.reduce_within.new.e (take m (drop (n * n) w)) made.filled made.filled_2
-    (ap (transposed n) (lent_whole (n * n) m w refl) ∙ made.w_after) it (omega arith) (omega (arith, c.requires)) in record { fact_1 = solved_values n a d e q done made.filled (omega arith); fact_2 = solved_behind n m w a d e q done refl inside it.kept.of_q.long; fact_3 = kept_then (kept_from (n * n + (n * n + 4 * n)) (omega arith) made.kept)
-              (kept_from (n * n + (n * n + 4 * n)) (omega arith) (back-kept (n * n) m w q refl inside it.kept.of_q.long (n * n) it.kept.of_q)); fact_4 = solved_convergence n a d e q done }
+    (ap (transposed n) (lent_whole (n * n) m w refl) ∙ made.w_after) it (omega arith) (omega (arith, c.requires)) in record {
+      fact_1 = solved_values n a d e q done made.filled (omega arith);
+      fact_2 = solved_behind n m w a d e q done refl inside it.kept.of_q.long;
+      fact_3 = kept_then (kept_from (n * n + (n * n + 4 * n)) (omega arith) made.kept)
+          (kept_from (n * n + (n * n + 4 * n)) (omega arith) (back-kept (n * n) m w q refl inside it.kept.of_q.long (n * n) it.kept.of_q));
+      fact_4 = solved_convergence n a d e q done;
+    }

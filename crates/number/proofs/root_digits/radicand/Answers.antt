@@ -13,6 +13,10 @@ fraction v = omega arith
 
 pub returns : goal.returns
 returns c =
-    let v = c.args.v in record { value = c.addend.ensures.result_value
+    let v = c.args.v in record {
+      value = c.addend.ensures.result_value
           ∙ ap (λ (r : ℕ). (2 ^ 52 + v % 2 ^ 53 % 2 ^ 52) * (1 + r)) (parity v)
-          ∙ ap (λ (t : ℕ). (2 ^ 52 + t) * (1 + v / 2 ^ 52 % 2)) (fraction v); lower_bound_1 = omega arith; lower_bound_2 = omega arith }
+          ∙ ap (λ (t : ℕ). (2 ^ 52 + t) * (1 + v / 2 ^ 52 % 2)) (fraction v);
+      lower_bound_1 = omega arith;
+      lower_bound_2 = omega arith;
+    }

@@ -56,7 +56,8 @@ all_points-requires c =
     let rest = length (take room (drop total work)) - total in
     let b = b-now.given in
     let w = w-now.given in
-    let d = sectorals.ensures in record { point_room = record {
+    let d = sectorals.ensures in record {
+      point_room = record {
         top = k.tables.top;
         of_a = omega (arith, k.room_work, long);
         of_b = omega (arith, b, k.tables.c, k.room_work, long);
@@ -69,8 +70,16 @@ all_points-requires c =
         of_odd = q.nmax_in_bounds_2_1;
         of_p = q.nmax_in_bounds_2_2;
         of_d = q.nmax_in_bounds_2_3;
-      }; points_bound_1 = k.few; points_bound_2 = omega (arith, k.each); points_bound_3 = omega (arith, k.pairs); points_bound_4 = omega (arith, k.orders); points_bound_5 = omega (arith, k.room_out); tabled_1 = tabled (weights_first a.head.nmax a.work.now tables.ensures (omega (arith, k.room_work))) total room rest k.tables.c
-                      (omega (arith, b, k.tables.c, k.room_work, long)) (omega (arith, w, b, k.tables.c, k.room_work, long)); tabled_2 = filled_self d }
+      };
+      points_bound_1 = k.few;
+      points_bound_2 = omega (arith, k.each);
+      points_bound_3 = omega (arith, k.pairs);
+      points_bound_4 = omega (arith, k.orders);
+      points_bound_5 = omega (arith, k.room_out);
+      tabled_1 = tabled (weights_first a.head.nmax a.work.now tables.ensures (omega (arith, k.room_work))) total room rest k.tables.c
+          (omega (arith, b, k.tables.c, k.room_work, long)) (omega (arith, w, b, k.tables.c, k.room_work, long));
+      tabled_2 = filled_self d;
+    }
 
 pub returns : goal.returns
 returns c =

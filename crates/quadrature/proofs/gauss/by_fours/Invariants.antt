@@ -10,7 +10,7 @@ use Prim.Native.Nat.{◌-◌, ◌≤◌}
 use Rattle.quadrature.proofs.gauss.by_fours.Given as goal
 
 abbrev pub invariant-loop-i : goal.invariant-loop-i
-invariant-loop-i l =     (l.i ≤ l.half) × Filled 0 (upper_node (from 0 l.guesses nan) l.n) l.i l.initial.x l.x × Filled 0 (upper_weight (from 0 l.guesses nan) l.n) l.i l.initial.w l.w
+invariant-loop-i l = (l.i ≤ l.half) × Filled 0 (upper_node (from 0 l.guesses nan) l.n) l.i l.initial.x l.x × Filled 0 (upper_weight (from 0 l.guesses nan) l.n) l.i l.initial.w l.w
 
 abbrev pub decreases-loop-i : goal.decreases-loop-i
 decreases-loop-i l = l.half - l.i

@@ -7,7 +7,7 @@ use Prim.Native.Nat.{◌-◌, ◌≤◌, ◌<◌}
 use Rattle.quadrature.proofs.gauss.four_roots.Given as goal
 
 abbrev pub invariant-loop-k : goal.invariant-loop-k
-invariant-loop-k l =     (l.k ≤ 100) × Corrected l.n l.za l.k l.a × Corrected l.n l.zb l.k l.b × Corrected l.n l.zc l.k l.c × Corrected l.n l.zd l.k l.d
+invariant-loop-k l = (l.k ≤ 100) × Corrected l.n l.za l.k l.a × Corrected l.n l.zb l.k l.b × Corrected l.n l.zc l.k l.c × Corrected l.n l.zd l.k l.d
 
 abbrev pub decreases-loop-k : goal.decreases-loop-k
 decreases-loop-k l = 100 - l.k

@@ -11,7 +11,7 @@ use Prim.Native.Nat.{◌+◌, ◌-◌, ◌≤◌}
 use Rattle.quadrature.proofs.gauss.one_by_one.Given as goal
 
 abbrev pub invariant-loop-i : goal.invariant-loop-i
-invariant-loop-i l =     (l.at + l.i ≤ l.half) × Filled l.at (upper_node (from l.at l.guesses nan) l.n) l.i l.initial.x l.x × Filled l.at (upper_weight (from l.at l.guesses nan) l.n) l.i l.initial.w l.w
+invariant-loop-i l = (l.at + l.i ≤ l.half) × Filled l.at (upper_node (from l.at l.guesses nan) l.n) l.i l.initial.x l.x × Filled l.at (upper_weight (from l.at l.guesses nan) l.n) l.i l.initial.w l.w
 
 abbrev pub decreases-loop-i : goal.decreases-loop-i
 decreases-loop-i l = l.half - l.at - l.i

@@ -31,14 +31,18 @@ overflow_add-at c = omega (arith, c.row.ensures.inside, c.requires.lmax_bound_5)
 pub write_function-requires : goal.write_function-requires
 write_function-requires c =
     let loop = c.loop-i in
-    let up = mul-le-mul_right c.args.table c.loop-i-test.true in record { fact_1 = c.requires.lmax_bound_1; fact_2 = omega (arith, c.row.ensures.inside, c.requires.lmax_bound_2, c.requires.lmax_bound_5); fact_3 = omega (
-          arith,
-          up,
-          c.requires.lmax_bound_3,
-          c.requires.table_in_bounds,
-          loop.invariant.1,
-          loop.invariant.2.long,
-        ) }
+    let up = mul-le-mul_right c.args.table c.loop-i-test.true in record {
+      fact_1 = c.requires.lmax_bound_1;
+      fact_2 = omega (arith, c.row.ensures.inside, c.requires.lmax_bound_2, c.requires.lmax_bound_5);
+      fact_3 = omega (
+        arith,
+        up,
+        c.requires.lmax_bound_3,
+        c.requires.table_in_bounds,
+        loop.invariant.1,
+        loop.invariant.2.long,
+      );
+    }
 
 pub overflow_add-to : goal.overflow_add-to
 overflow_add-to c =

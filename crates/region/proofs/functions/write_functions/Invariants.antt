@@ -11,7 +11,7 @@ use Rattle.region.specs.Written.{picked_vector, functions_more}
 use Rattle.region.proofs.functions.write_functions.Given as goal
 
 abbrev pub invariant-loop-i : goal.invariant-loop-i
-invariant-loop-i l =     (l.i ≤ l.n) × (l.to ≡ l.i * l.table) × Filled 0 (by_rows (picked_vector l.sine l.n l.at l.places l.w) l.table) (l.i * l.table) l.initial.out l.out
+invariant-loop-i l = (l.i ≤ l.n) × (l.to ≡ l.i * l.table) × Filled 0 (by_rows (picked_vector l.sine l.n l.at l.places l.w) l.table) (l.i * l.table) l.initial.out l.out
 
 abbrev pub decreases-loop-i : goal.decreases-loop-i
 decreases-loop-i l = l.n - l.i

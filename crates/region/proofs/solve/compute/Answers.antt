@@ -44,11 +44,20 @@ write-requires c =
     let a = c.requires in
     let r = solve_room a.lists.top z.of_functions (ap (λ (x : ℕ). 3 * x) z.of_table) a.of_work in
     let rows = ap₂ (λ (x y : ℕ). x * y) z.of_functions z.of_table in
-    let done = solve.ensures in record { lmax_bound_1 = a.lists.top; lmax_bound_2 = z.of_functions; lmax_bound_3 = z.of_table; lmax_bound_4 = omega (arith, z.few, done.filled.long); lmax_bound_5 = omega (arith, r.long, done.vectors_in_2.long); n_in_bounds_1 = omega (
-                  arith,
-                  z.of_functions,
-                  a.of_concentrations,
-                ); n_in_bounds_2 = omega (arith, rows, a.of_cosines); n_in_bounds_3 = omega (arith, rows, a.of_sines) }
+    let done = solve.ensures in record {
+      lmax_bound_1 = a.lists.top;
+      lmax_bound_2 = z.of_functions;
+      lmax_bound_3 = z.of_table;
+      lmax_bound_4 = omega (arith, z.few, done.filled.long);
+      lmax_bound_5 = omega (arith, r.long, done.vectors_in_2.long);
+      n_in_bounds_1 = omega (
+        arith,
+        z.of_functions,
+        a.of_concentrations,
+      );
+      n_in_bounds_2 = omega (arith, rows, a.of_cosines);
+      n_in_bounds_3 = omega (arith, rows, a.of_sines);
+    }
 
 pub returns : goal.returns
 returns c =
@@ -59,7 +68,8 @@ returns c =
     let a = c.requires in
     let done = solve.ensures in
     let written = write.ensures in
-    let D = concentration_matrix c.args.lmax c.args.weights.now c.args.latitudes.now c.args.marks.now c.args.s.now c.args.c.now c.args.nodes in record { region_made = record {
+    let D = concentration_matrix c.args.lmax c.args.weights.now c.args.latitudes.now c.args.marks.now c.args.s.now c.args.c.now c.args.nodes in record {
+      region_made = record {
         concentrations = concentrations_are c.args.lmax D z.of_functions a.lists.top done.filled z.few written.filled;
         cosines =
             numbers_are c.args.lmax D z.of_functions a.lists.top done.filled z.few false done.vectors_in_1 z.of_table written.filled_2;
@@ -67,4 +77,6 @@ returns c =
             numbers_are c.args.lmax D z.of_functions a.lists.top done.filled z.few true done.vectors_in_1 z.of_table written.filled_3;
         kept =
             done.vectors_in_2;
-      }; value = region-convergence c.args.lmax D z.of_functions done.value }
+      };
+      value = region-convergence c.args.lmax D z.of_functions done.value;
+    }

@@ -10,7 +10,7 @@ use Prim.Native.Nat.{ℕ, ◌+◌, ◌-◌, ◌*◌, ◌≤◌}
 use Rattle.region_nodes.proofs.basis.functions.Given as goal
 
 abbrev pub invariant-loop-l : goal.invariant-loop-l
-invariant-loop-l l =     (l.l ≤ l.lmax + 1) × (l.start ≡ row_start l.l) × (l.at ≡ l.l * l.l) × (l.start ≤ 253) × (l.at ≤ 484) × Filled 0 (by_place l.lmax l.p) l.at l.initial.functions l.functions
+invariant-loop-l l = (l.l ≤ l.lmax + 1) × (l.start ≡ row_start l.l) × (l.at ≡ l.l * l.l) × (l.start ≤ 253) × (l.at ≤ 484) × Filled 0 (by_place l.lmax l.p) l.at l.initial.functions l.functions
 
 abbrev pub decreases-loop-l : goal.decreases-loop-l
 decreases-loop-l l = l.lmax + 1 - l.l

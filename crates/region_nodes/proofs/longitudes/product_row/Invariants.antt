@@ -12,7 +12,7 @@ use Prim.Native.Nat.{◌+◌, ◌-◌, ◌≤◌}
 use Rattle.region_nodes.proofs.longitudes.product_row.Given as goal
 
 abbrev pub invariant-loop-b : goal.invariant-loop-b
-invariant-loop-b l =     (l.b ≤ l.lmax + l.lmax + 1) × Filled l.to (product_in (from l.at l.s nan) (from l.at l.c nan) l.a) l.b l.initial.products l.products
+invariant-loop-b l = (l.b ≤ l.lmax + l.lmax + 1) × Filled l.to (product_in (from l.at l.s nan) (from l.at l.c nan) l.a) l.b l.initial.products l.products
 
 abbrev pub decreases-loop-b : goal.decreases-loop-b
 decreases-loop-b l = l.lmax + l.lmax + 1 - l.b

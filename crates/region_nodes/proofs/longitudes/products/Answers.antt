@@ -18,12 +18,18 @@ loop-a-init c = (omega arith, refl, filled_to filled_none (omega arith))
 
 pub product_row-requires : goal.product_row-requires
 unfolding integrals
-product_row-requires c = record { fact_1 = omega arith; fact_2 = omega arith; fact_3 = omega arith; fact_4 = omega arith; fact_5 = omega (
-          arith,
-          c.row.ensures.inside,
-          c.loop-a.invariant.2.long,
-          c.requires.fact_4,
-        ) }
+product_row-requires c = record {
+  fact_1 = omega arith;
+  fact_2 = omega arith;
+  fact_3 = omega arith;
+  fact_4 = omega arith;
+  fact_5 = omega (
+    arith,
+    c.row.ensures.inside,
+    c.loop-a.invariant.2.long,
+    c.requires.fact_4,
+  );
+}
 
 pub loop-a-preserved : goal.loop-a-preserved
 loop-a-preserved c = (

@@ -13,7 +13,7 @@ use Prim.Native.Nat.{ℕ, ◌-◌, ◌*◌, ◌≤◌}
 use Rattle.region_nodes.proofs.longitudes.products.Given as goal
 
 abbrev pub invariant-loop-a : goal.invariant-loop-a
-invariant-loop-a l =     (l.a ≤ l.count) × (l.count ≡ integrals l.lmax) × Filled 0 (by_rows (product_in (from l.at l.s nan) (from l.at l.c nan)) (integrals l.lmax)) (l.a * l.count) l.initial.products l.products
+invariant-loop-a l = (l.a ≤ l.count) × (l.count ≡ integrals l.lmax) × Filled 0 (by_rows (product_in (from l.at l.s nan) (from l.at l.c nan)) (integrals l.lmax)) (l.a * l.count) l.initial.products l.products
 
 abbrev pub decreases-loop-a : goal.decreases-loop-a
 decreases-loop-a l = l.count - l.a

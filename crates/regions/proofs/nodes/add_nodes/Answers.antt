@@ -28,14 +28,13 @@ pub overflow_add-v : goal.overflow_add-v
 overflow_add-v c = omega (arith, c.loop-v-test.true, c.requires.fact_1.few)
 
 pub loop-v-preserved : goal.loop-v-preserved
-loop-v-preserved c =
-    (
-      omega (arith, c.loop-v-test.true),
-      c.node.ensures.p_len_unchanged_1 ∙ c.loop-v.invariant.1,
-      c.node.ensures.p_len_unchanged_2 ∙ c.loop-v.invariant.2,
-      c.node.ensures.p_len_unchanged_3 ∙ c.loop-v.invariant.3,
-      nodes_more _ _ _ _ _ _ c.loop-v.v (omega (arith, c.requires.fact_2.room_matrix, c.clear.ensures.long)) c.loop-v.invariant.4 c.node.ensures.filled,
-    )
+loop-v-preserved c = (
+  omega (arith, c.loop-v-test.true),
+  c.node.ensures.p_len_unchanged_1 ∙ c.loop-v.invariant.1,
+  c.node.ensures.p_len_unchanged_2 ∙ c.loop-v.invariant.2,
+  c.node.ensures.p_len_unchanged_3 ∙ c.loop-v.invariant.3,
+  nodes_more _ _ _ _ _ _ c.loop-v.v (omega (arith, c.requires.fact_2.room_matrix, c.clear.ensures.long)) c.loop-v.invariant.4 c.node.ensures.filled,
+)
 
 pub returns : goal.returns
 returns c = nodes_all _ _ _ _ _ _ c.basis_size-n.ensures.fact_1 (omega (arith, c.loop-v.invariant.0, c.loop-v-test.false)) c.clear.ensures c.loop-v.invariant.4

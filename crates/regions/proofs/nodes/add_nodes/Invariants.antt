@@ -12,7 +12,7 @@ use Rattle.regions.specs.Nodes.{partial_cell, arrays_kept, nodes_none, nodes_mor
 use Rattle.regions.proofs.nodes.add_nodes.Given as goal
 
 abbrev pub invariant-loop-v : goal.invariant-loop-v
-invariant-loop-v l =     (l.v ≤ l.nodes) × (length l.p ≡ length l.initial.p) × (length l.functions ≡ length l.initial.functions) × (length l.products ≡ length l.initial.products)
+invariant-loop-v l = (l.v ≤ l.nodes) × (length l.p ≡ length l.initial.p) × (length l.functions ≡ length l.initial.functions) × (length l.products ≡ length l.initial.products)
     × Filled 0 (by_rows (partial_cell l.lmax l.weights l.latitudes l.marks l.s l.c l.v) (basis_size l.lmax)) (basis_size l.lmax * basis_size l.lmax) l.initial.d l.d
 
 abbrev pub decreases-loop-v : goal.decreases-loop-v

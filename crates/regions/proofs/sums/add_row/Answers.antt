@@ -35,12 +35,11 @@ overflow_add-first-in-loop-k-2 c =
     omega (arith, up, c.loop-k.invariant.1)
 
 pub loop-k-preserved : goal.loop-k-preserved
-loop-k-preserved c =
-    (
-      omega arith,
-      omega (arith, c.loop-k.invariant.1),
-      filled_to (row_more _ _ _ _ _ _ _ _ (omega arith) (omega arith) c.loop-k.invariant.1 refl c.loop-k.invariant.2 c.add_run.ensures) (omega arith),
-    )
+loop-k-preserved c = (
+  omega arith,
+  omega (arith, c.loop-k.invariant.1),
+  filled_to (row_more _ _ _ _ _ _ _ _ (omega arith) (omega arith) c.loop-k.invariant.1 refl c.loop-k.invariant.2 c.add_run.ensures) (omega arith),
+)
 
 pub overflow_add-at-2 : goal.overflow_add-at-2
 overflow_add-at-2 c =

@@ -23,7 +23,9 @@ b_rows-requires c =
 pub add_nodes-requires : goal.add_nodes-requires
 add_nodes-requires c =
     let top = c.requires.fact_1.top in
-    let sizes = array_sizes _ top in record { fact_1 = c.requires.fact_1; fact_2 = record {
+    let sizes = array_sizes _ top in record {
+      fact_1 = c.requires.fact_1;
+      fact_2 = record {
         top = top;
         of_a = filled_self (rows_from_zero a_cell _ c.a_rows.ensures);
         of_b = filled_self (rows_from_zero b_cell _ c.b_rows.ensures);
@@ -33,7 +35,8 @@ add_nodes-requires c =
         room_functions = omega (arith, sizes.functions, c.a_rows.auto.inverse, c.b_rows.auto.ratio);
         room_products = sizes.products;
         room_matrix = c.requires.fact_2;
-      } }
+      };
+    }
 
 pub basis_size-n-requires : goal.basis_size-n-requires
 basis_size-n-requires c = c.requires.fact_1.top

@@ -29,12 +29,18 @@ point-x-requires c =
     let l = c.loop-i.invariant in
     let n = c.args.nmax in
     let up = mul-le-mul_right (n + n + 2) c.loop-i-test.true in
-    let room = h.field_room_1 in record { fact_1 = record {
+    let room = h.field_room_1 in record {
+      fact_1 = record {
         top = room.top;
         of_c = room.of_c;
         of_s = room.of_s;
         of_rows = omega (arith, room.of_rows, l.4);
-      }; fact_2 = h.field_room_2; fact_3 = omega (arith, h.nmax_in_bounds_1, up); fact_4 = omega (arith, h.nmax_in_bounds_3, l.3.long); fact_5 = l.3.ready }
+      };
+      fact_2 = h.field_room_2;
+      fact_3 = omega (arith, h.nmax_in_bounds_1, up);
+      fact_4 = omega (arith, h.nmax_in_bounds_3, l.3.long);
+      fact_5 = l.3.ready;
+    }
 
 pub store_point-requires : goal.store_point-requires
 store_point-requires c = omega (arith, c.loop-i.invariant.1, c.loop-i.invariant.2.long, c.loop-i-test.true, c.requires.nmax_in_bounds_2)

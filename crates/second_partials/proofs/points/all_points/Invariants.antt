@@ -12,7 +12,7 @@ use lib.ListN.{length}
 use Rattle.second_partials.proofs.points.all_points.Given as goal
 
 abbrev pub invariant-loop-i : goal.invariant-loop-i
-invariant-loop-i l =     (l.i ≤ l.points) × (l.at ≡ l.i * 10) × Filled 0 (by_rows (second_cell l.gm l.radius l.nmax l.c l.s l.trig l.radii l.latitudes) 10) (l.i * 10) l.initial.out l.out
+invariant-loop-i l = (l.i ≤ l.points) × (l.at ≡ l.i * 10) × Filled 0 (by_rows (second_cell l.gm l.radius l.nmax l.c l.s l.trig l.radii l.latitudes) 10) (l.i * 10) l.initial.out l.out
     × Worked l.nmax l.initial.work l.work × (length l.rows ≡ length l.initial.rows)
 
 abbrev pub decreases-loop-i : goal.decreases-loop-i

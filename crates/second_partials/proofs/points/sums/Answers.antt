@@ -54,7 +54,8 @@ add_degrees-requires c =
     let w₁ = take j (drop a.total b₁) in
     let k = length w₁ - a.total in
     let s₁ = take k (drop a.total w₁) in
-    let g = length s₁ - (N + 1) in record { second_room = record {
+    let g = length s₁ - (N + 1) in record {
+      second_room = record {
         top = h.field_room_1.top;
         of_a = omega (arith, within, room);
         of_b = omega (arith, within, room, e, b);
@@ -64,6 +65,11 @@ add_degrees-requires c =
         of_sectorals = omega (arith, within, room, e, b, w, s);
         of_r = omega (arith, within, room, e, b, w, s, r);
         of_rows = h.field_room_1.of_rows;
-      }; nmax_in_bounds_1 = h.field_room_3; nmax_in_bounds_2 = tabled h.prepared_1.first a.total i j e (omega (arith, within, room, e, b)) (omega (arith, within, room, e, b, w)); nmax_in_bounds_3 = sectorals_standing N l a.total (N + 1) i j k e refl (omega (arith, within, room, e, b)) (omega (arith, within, room, e, b, w))
-                (omega (arith, within, room, e, b, w, s)) h.prepared_1; nmax_in_bounds_4 = powers_standing N l a.total (N + 1) i j k e refl (omega (arith, within, room, e, b)) (omega (arith, within, room, e, b, w))
-                (omega (arith, within, room, e, b, w, s)) g a.u (omega (arith, within, room, e, b, w, s, r)) h.prepared_2 (omega (arith, within, room)) }
+      };
+      nmax_in_bounds_1 = h.field_room_3;
+      nmax_in_bounds_2 = tabled h.prepared_1.first a.total i j e (omega (arith, within, room, e, b)) (omega (arith, within, room, e, b, w));
+      nmax_in_bounds_3 = sectorals_standing N l a.total (N + 1) i j k e refl (omega (arith, within, room, e, b)) (omega (arith, within, room, e, b, w))
+          (omega (arith, within, room, e, b, w, s)) h.prepared_1;
+      nmax_in_bounds_4 = powers_standing N l a.total (N + 1) i j k e refl (omega (arith, within, room, e, b)) (omega (arith, within, room, e, b, w))
+          (omega (arith, within, room, e, b, w, s)) g a.u (omega (arith, within, room, e, b, w, s, r)) h.prepared_2 (omega (arith, within, room));
+    }

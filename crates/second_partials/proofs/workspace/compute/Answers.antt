@@ -10,7 +10,8 @@ prepare-requires c = let k = c.requires in record { fact_1 = k.tables.top; fact_
 pub points_in-requires : goal.points_in-requires
 points_in-requires c =
     let k = c.requires in
-    let worked = c.prepare.ensures in record { fact_1 = record {
+    let worked = c.prepare.ensures in record {
+      fact_1 = record {
         tables = k.tables;
         few = k.few;
         each = k.each;
@@ -18,7 +19,9 @@ points_in-requires c =
         orders = k.orders;
         room_work = omega (arith, k.room_work, worked.long);
         room_out = k.room_out;
-      }; fact_2 = worked.ready }
+      };
+      fact_2 = worked.ready;
+    }
 
 pub returns : goal.returns
 returns c =

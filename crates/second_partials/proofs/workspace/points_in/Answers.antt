@@ -13,10 +13,10 @@ all_points-requires-else-nmax-lt128 c =
 
 pub returns-then-nmax-lt128 : goal.returns-then-nmax-lt128
 returns-then-nmax-lt128 c =
-    let values = c.all_points.ensures.filled in let worked = c.all_points.ensures.worked in 
+    let values = c.all_points.ensures.filled in let worked = c.all_points.ensures.worked in
     record { values = values; rest = worked.rest; long = worked.long }
 
 pub returns-else-nmax-lt128 : goal.returns-else-nmax-lt128
 returns-else-nmax-lt128 c =
-    let values = c.all_points-else-nmax-lt128.ensures.filled in let worked = c.all_points-else-nmax-lt128.ensures.worked in 
+    let values = c.all_points-else-nmax-lt128.ensures.filled in let worked = c.all_points-else-nmax-lt128.ensures.worked in
     record { values = values; rest = worked.rest; long = worked.long }
