@@ -21,7 +21,7 @@ block_end-m-requires c = record { fact_1 = c.requires.fact_2; fact_2 = c.loop-k.
 pub returns-then-m-l : goal.returns-then-m-l
 returns-then-m-l c = record {
   fact_1 = record {
-    is = sym (rounds_settled _ _ _ _ _ _ _ _ c.block_end-m.ensures.is c.loop-k-test.true
+    is = sym (rounds_settled _ _ _ _ _ _ _ _ c.block_end-m.ensures.is (omega arith)
         c.if-m-l.true) ∙ c.loop-k.invariant.2;
     kept = c.loop-k.invariant.0;
   };
@@ -43,7 +43,7 @@ loop-k-preserved c = (
   omega arith,
   sym (rounds_more _ _ _ _ _ _ _ _
       c.block_end-m.ensures.is
-      c.loop-k-test.true c.if-m-l.false
+      (omega arith) c.if-m-l.false
       c.round.ensures.is) ∙ c.loop-k.invariant.2,
 )
 

@@ -38,7 +38,7 @@ loop-lo-preserved c =
           c.requires.le_width_4 at.times
           c.loop-lo.lo c.smaller-mid.result
           c.smaller-hi.result
-          c.shared_slice_known-1.given at.is
+          c.type_inv.keys at.is
           c.loop-lo-test.true m h)
           (filled_to c.loop-lo.invariant.1 below) c.merge_runs.ensures)
           h,

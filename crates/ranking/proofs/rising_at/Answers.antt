@@ -19,4 +19,4 @@ bounds-keys-place c = place_inside (places_in c.args.keys.now c.requires.fact_4 
 pub returns : goal.returns
 returns c =
     ap (λ (p : ℕ). get_or c.args.keys.now p nan) c.index-place.ensures
-    ∙ rises c.args.keys.now c.requires.fact_4 c.requires.fact_3 c.shared_slice_known-4-1.given c.args.i c.requires.fact_1
+    ∙ rises c.args.keys.now c.requires.fact_4 c.requires.fact_3 c.type_inv.keys c.args.i c.requires.fact_1

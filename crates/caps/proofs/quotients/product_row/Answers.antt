@@ -57,7 +57,7 @@ loop-j-preserved c =
           c.args.vectors.now - c.loop-j.at)
           c.loop-j.invariant.1 (omega
           (arith, up, c.loop-j.invariant.1, c.requires.fact_3))
-          (times_one _ (c.shared_slice_known-1.given (c.args.row + c.loop-j.j)))
+          (times_one _ (c.type_inv.work (c.args.row + c.loop-j.j)))
           (omega (
             arith,
             c.clear.ensures.long,
