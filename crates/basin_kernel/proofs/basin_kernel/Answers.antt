@@ -15,7 +15,6 @@ use native.Mathlib.Omega.{arith}
 use mathlib.Core.Path.{refl, sym, ap, ◌∙◌}
 use Prim.Native.Nat.{ℕ, ◌*◌}
 use lib.ListN.{length}
-use borrow.Author.Rules.{rules}
 use Rattle.basin_kernel.proofs.basin_kernel.Goals as goal
 
 pub slice_bounds-tables_by-end : goal.slice_bounds-tables_by-end

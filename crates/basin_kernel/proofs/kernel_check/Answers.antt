@@ -6,7 +6,6 @@ use Rattle.basin_kernel.specs.CheckLaws.{wrong_lists, short_work, short_kc, shor
 use native.Mathlib.Omega.{arith}
 use mathlib.Core.Path.{sym, ◌∙◌}
 use Prim.Native.Nat.{◌≤◌}
-use borrow.Author.Rules.{rules}
 use Rattle.basin_kernel.proofs.kernel_check.Goals as goal
 
 pub overflow_mul-total : goal.overflow_mul-total

@@ -3,7 +3,6 @@ use Rattle.partials.specs.Promise.{point_refused, one_point}
 use Rattle.point_lists.specs.Checks.{point_accepted}
 use native.Mathlib.Omega.{arith}
 use mathlib.Core.Path.{refl, sym, ◌∙◌}
-use borrow.Author.Rules.{rules}
 use Rattle.partials.proofs.partials.Goals as goal
 
 pub compute-requires : goal.compute-requires

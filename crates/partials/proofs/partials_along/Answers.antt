@@ -1,7 +1,6 @@
 -- `partials_along` meets its contract: past the checks the points are written. Assumes nothing.
 use Rattle.point_lists.specs.Checks.{many_accepted}
 use mathlib.Core.Path.{refl, sym, ◌∙◌}
-use borrow.Author.Rules.{rules}
 use Rattle.partials.proofs.partials_along.Goals as goal
 
 pub compute-requires : goal.compute-requires

@@ -5,7 +5,6 @@ use native.Mathlib.Nat.{mul-le-mul_right}
 use native.Mathlib.Omega.{arith}
 use mathlib.Core.Path.{sym, ◌∙◌}
 use Prim.Native.Nat.{◌+◌}
-use borrow.Author.Rules.{rules}
 use Rattle.point_lists.proofs.along_check.Goals as goal
 
 pub returns-then-points-gt-MAX_POINTS : goal.returns-then-points-gt-MAX_POINTS

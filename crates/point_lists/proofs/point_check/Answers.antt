@@ -3,7 +3,6 @@ use Rattle.point_lists.specs.Checks.{counted, point_tables, point_orders, point_
 use Rattle.storage.specs.Checks.{tables_passed}
 use native.Mathlib.Omega.{arith}
 use mathlib.Core.Path.{sym, ◌∙◌}
-use borrow.Author.Rules.{rules}
 use Rattle.point_lists.proofs.point_check.Goals as goal
 
 pub overflow_add-nmax : goal.overflow_add-nmax

@@ -4,7 +4,6 @@ use Rattle.storage.specs.Filled.{filled_part}
 use native.Mathlib.Omega.{arith}
 use Prim.Native.Nat.{◌+◌, ◌-◌}
 use lib.ListN.{length}
-use borrow.Author.Rules.{rules}
 use Rattle.point_lists.proofs.tables.Goals as goal
 
 pub tables_by-requires : goal.tables_by-requires

@@ -3,7 +3,6 @@ use Rattle.point_sums.specs.Sums.{cosine_from, sine_from, degree_added}
 use Rattle.storage.specs.Elements.{from}
 use lib.Ieee.{nan}
 use native.Mathlib.Omega.{arith}
-use borrow.Author.Rules.{rules}
 use Rattle.point_sums.proofs.add_degree.Goals as goal
 
 pub scale_row-requires : goal.scale_row-requires

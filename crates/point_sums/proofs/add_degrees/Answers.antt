@@ -1,10 +1,9 @@
 -- `sums::add_degrees` meets its contract: the degrees below n are added, and the last two rows of the recursion are at hand. Assumes nothing.
-use Rattle.point_sums.specs.Sums.{DegreesBelow, degrees_none, degrees_more, degrees_to}
+use Rattle.point_sums.specs.Sums.{degrees_none, degrees_more, degrees_to}
 use Rattle.storage.specs.Triangle.{RowWithin, row_within}
 use native.Mathlib.Omega.{arith}
-use mathlib.Core.Path.{◌≡◌, refl, ap, ◌∙◌}
-use Prim.Native.Nat.{ℕ, ◌+◌, ◌-◌, ◌≤◌, ◌<◌}
-use lib.ListN.{length}
+use mathlib.Core.Path.{◌≡◌, refl, ap}
+use Prim.Native.Nat.{ℕ, ◌+◌, ◌≤◌, ◌<◌}
 use Rattle.point_sums.proofs.add_degrees.Goals as goal
 
 -- the two rows of a turn are within the tables

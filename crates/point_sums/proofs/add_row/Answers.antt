@@ -2,7 +2,6 @@
 use Rattle.number.specs.Whole.{whole}
 use native.Mathlib.Omega.{arith}
 use mathlib.Core.Path.{refl}
-use borrow.Author.Rules.{rules}
 use Rattle.point_sums.proofs.add_row.Goals as goal
 
 pub int_to_float-nf : goal.int_to_float-nf

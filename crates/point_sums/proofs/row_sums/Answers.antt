@@ -1,12 +1,11 @@
 -- `sums::row_sums` meets its contract: the three sums so far are those of the orders below m. Assumes nothing.
-use Rattle.point_sums.specs.Sums.{cosine_from, sine_from, OrdersBelow, orders_none, orders_more, orders_all}
+use Rattle.point_sums.specs.Sums.{cosine_from, sine_from, orders_none, orders_more, orders_all}
 use Rattle.storage.specs.Elements.{from, from_zero}
 use Rattle.number.specs.Whole.{whole_zero, whole_next}
-use Rattle.number.specs.Float64.{of_whole}
 use lib.Ieee.{nan}
 use native.Mathlib.Omega.{arith}
 use mathlib.Core.Path.{◌≡◌, sym}
-use Prim.Native.Nat.{◌+◌, ◌-◌, ◌≤◌}
+use Prim.Native.Nat.{◌+◌}
 use Rattle.point_sums.proofs.row_sums.Goals as goal
 
 pub loop-m-init : goal.loop-m-init

@@ -6,7 +6,6 @@ use Rattle.polygon.specs.CheckLaws.{vertices_accepted, refused_before, room_chec
 use native.Mathlib.Omega.{arith}
 use mathlib.Core.Path.{refl, sym, ap, ◌∙◌}
 use lib.ListN.{length}
-use borrow.Author.Rules.{rules}
 use Rattle.polygon.proofs.breaks.Goals as goal
 
 pub compute-requires : goal.compute-requires

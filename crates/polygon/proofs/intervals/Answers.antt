@@ -3,7 +3,6 @@ use Rattle.polygon.specs.CheckLaws.{vertices_accepted, refused_before, room_chec
 use Rattle.polygon.specs.EndsLaws.{length_intervals}
 use native.Mathlib.Omega.{arith}
 use mathlib.Core.Path.{refl, sym, ◌∙◌}
-use borrow.Author.Rules.{rules}
 use Rattle.polygon.proofs.intervals.Goals as goal
 
 pub count_crossings-k-requires : goal.count_crossings-k-requires

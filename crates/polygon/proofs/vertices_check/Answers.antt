@@ -1,7 +1,6 @@
 -- `vertices_check` meets its contract: each way through it has its law. Assumes nothing.
 use Rattle.polygon.specs.CheckLaws.{too_many, not_pairs, short_work, vertices_done}
 use native.Mathlib.Omega.{arith}
-use borrow.Author.Rules.{rules}
 use Rattle.polygon.proofs.vertices_check.Goals as goal
 
 pub returns-then-v-gt-MAX_VERTICES : goal.returns-then-v-gt-MAX_VERTICES

@@ -3,7 +3,6 @@ use Rattle.second_partials.specs.Promise.{second_refused, one_second}
 use Rattle.point_lists.specs.Checks.{point_accepted}
 use native.Mathlib.Omega.{arith}
 use mathlib.Core.Path.{refl, sym, ◌∙◌}
-use borrow.Author.Rules.{rules}
 use Rattle.second_partials.proofs.second_partials.Goals as goal
 
 pub compute-requires : goal.compute-requires

@@ -1,7 +1,6 @@
 -- `add_degree` meets its contract: what its calls promise, one after the other. Assumes nothing.
 use native.Mathlib.Omega.{arith}
 use mathlib.Core.Path.{ap, ◌∙◌}
-use borrow.Author.Rules.{rules}
 use Rattle.second_sums.specs.declared.SecondRow.{SecondRow}
 use Rattle.second_sums.specs.Sums.{with_row}
 use Rattle.second_sums.proofs.add_degree.Goals as goal

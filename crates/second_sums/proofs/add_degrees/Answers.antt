@@ -1,10 +1,9 @@
 -- `add_degrees` meets its contract: the degrees below n are added, and the last two rows of the recursion are at hand. Assumes nothing.
-use Rattle.second_sums.specs.Sums.{DegreesBelow, degrees_none, degrees_more, degrees_to}
+use Rattle.second_sums.specs.Sums.{degrees_none, degrees_more, degrees_to}
 use Rattle.storage.specs.Triangle.{row_within}
 use native.Mathlib.Omega.{arith}
 use mathlib.Core.Path.{◌≡◌, refl}
-use Prim.Native.Nat.{◌+◌, ◌-◌, ◌≤◌}
-use lib.ListN.{length}
+use Prim.Native.Nat.{◌+◌}
 use Rattle.second_sums.proofs.add_degrees.Goals as goal
 
 pub loop-n-init : goal.loop-n-init

@@ -1,8 +1,6 @@
 -- `add_degrees` meets its contract: the degrees below n are added, and the last two rows of the recursion are at hand. Assumes nothing.
-use Rattle.second_sums.specs.Sums.{DegreesBelow, degrees_none, degrees_more, degrees_to}
-use Rattle.storage.specs.Triangle.{row_within}
-use native.Mathlib.Omega.{arith}
-use mathlib.Core.Path.{◌≡◌, refl}
+use Rattle.second_sums.specs.Sums.{DegreesBelow}
+use mathlib.Core.Path.{◌≡◌}
 use Prim.Native.Nat.{◌+◌, ◌-◌, ◌≤◌}
 use lib.ListN.{length}
 use Rattle.second_sums.proofs.add_degrees.Given as goal

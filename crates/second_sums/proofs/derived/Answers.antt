@@ -3,7 +3,6 @@ use Rattle.second_sums.specs.Window.{derived_zonal, derived_inner, derived_beyon
 use Rattle.storage.specs.Elements.{from}
 use lib.Ieee.{nan}
 use native.Mathlib.Omega.{arith}
-use borrow.Author.Rules.{rules}
 use Rattle.second_sums.proofs.derived.Goals as goal
 
 pub returns-then-m-eq0 : goal.returns-then-m-eq0

@@ -1,13 +1,8 @@
 -- `inner_pairs` meets its contract: the pairs of the orders below m are stored, those above are as they were. Assumes nothing.
-use Rattle.second_sums.specs.Pairs.{next_pair, pair_more, pair_inner}
-use Rattle.recursion.specs.Recursion.{step}
+use Rattle.second_sums.specs.Pairs.{next_pair}
 use Rattle.storage.specs.Rectangle.{by_rows}
-use Rattle.storage.specs.Filled.{Filled, filled_none, filled_to, filled_after}
-use lib.ListN.{get_or, length-set}
-use lib.Ieee.{Float, nan}
-use native.Mathlib.Omega.{arith}
-use mathlib.Core.Path.{refl, ap₂, ◌∙◌}
-use Prim.Native.Nat.{◌+◌, ◌-◌, ◌*◌, ◌≤◌}
+use Rattle.storage.specs.Filled.{Filled}
+use Prim.Native.Nat.{◌-◌, ◌*◌, ◌≤◌}
 use Rattle.second_sums.proofs.inner_pairs.Given as goal
 
 abbrev pub invariant-loop-m : goal.invariant-loop-m

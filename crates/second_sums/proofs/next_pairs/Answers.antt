@@ -8,7 +8,6 @@ use lib.Ieee.{Float, nan}
 use native.Mathlib.Omega.{arith}
 use mathlib.Core.Path.{◌≡◌, refl, ap, ◌∙◌}
 use Prim.Native.Nat.{◌+◌, ◌-◌}
-use borrow.Author.Rules.{rules}
 use Rattle.second_sums.proofs.next_pairs.Goals as goal
 
 pub returns-then-n-eq0 : goal.returns-then-n-eq0

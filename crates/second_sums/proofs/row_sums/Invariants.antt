@@ -1,17 +1,14 @@
 -- `row_sums` meets its contract: the sums so far are those of the orders below m, and P and its derivatives are at hand. Assumes nothing.
-use Rattle.second_sums.specs.Window.{Window, window_start, window_more, window_here, window_first, window_second}
-use Rattle.second_sums.specs.Sums.{OrdersBelow, orders_none, orders_more, orders_all, row_sums}
+use Rattle.second_sums.specs.Window.{Window}
+use Rattle.second_sums.specs.Sums.{OrdersBelow}
 use Rattle.point_sums.specs.Sums.{cosine_from, sine_from}
 use Rattle.derivative.specs.Derivative.{derived_row}
 use Rattle.second_sums.specs.Pairs.{scaled_pair}
 use Rattle.storage.specs.Elements.{from}
-use Rattle.number.specs.Whole.{whole_zero, whole_next}
-use Rattle.number.specs.Float64.{of_whole, zero64}
+use Rattle.number.specs.Float64.{of_whole}
 use lib.Ieee.{nan}
-use borrow.Author.Rules.{rules}
-use native.Mathlib.Omega.{arith}
 use mathlib.Core.Path.{◌≡◌}
-use Prim.Native.Nat.{◌+◌, ◌-◌, ◌≤◌}
+use Prim.Native.Nat.{◌-◌, ◌≤◌}
 use Rattle.second_sums.proofs.row_sums.Given as goal
 
 abbrev pub invariant-loop-m : goal.invariant-loop-m

@@ -3,7 +3,6 @@ use Rattle.second_sums.specs.Window.{up_to_beyond, up_to_within}
 use Rattle.second_sums.specs.Pairs.{scaled_pair}
 use native.Mathlib.Omega.{arith}
 use mathlib.Core.Path.{sym}
-use borrow.Author.Rules.{rules}
 use Rattle.second_sums.proofs.scaled.Goals as goal
 
 pub returns-then-m-n : goal.returns-then-m-n

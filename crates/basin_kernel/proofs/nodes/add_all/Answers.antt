@@ -2,7 +2,6 @@
 use Rattle.basin_kernel.specs.NodeLaws.{kernel_is}
 use mathlib.Core.Bool.{true, false}
 use native.Mathlib.Omega.{arith}
-use borrow.Author.Rules.{rules}
 use Rattle.basin_kernel.proofs.nodes.add_all.Goals as goal
 
 pub add_nodes-requires : goal.add_nodes-requires

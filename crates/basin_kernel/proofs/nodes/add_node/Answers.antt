@@ -10,7 +10,6 @@ use native.Mathlib.Omega.{arith}
 use mathlib.Core.Path.{refl, ap}
 use Prim.Native.Nat.{ℕ, ◌+◌, ◌-◌, ◌*◌}
 use lib.ListN.{length}
-use borrow.Author.Rules.{rules}
 use Rattle.basin_kernel.proofs.nodes.add_node.Goals as goal
 
 pub returns-then-marks-v-eq0 : goal.returns-then-marks-v-eq0
@@ -50,7 +49,7 @@ add_degrees-requires c =
     let least = row_start_least (a.lmax + 1) in
     let powers = filled_part at (length w - at) w c.rescales.ensures (omega arith) in
     let node = integrals_at a.v (omega arith) pre.v_lt_nodes_2 pre.v_lt_nodes_1 in
-    record { lmax_bound_1 = pre.v_lt_nodes_2.top; lmax_bound_2 = omega (arith, tables.size, tables.long, powers.long); lmax_bound_3 = omega (arith, tables.size, tables.long, powers.long, c.b-1.given); lmax_bound_4 = omega (arith, least, tables.size, tables.long, powers.long, c.b-1.given, c.r-1.given); lmax_bound_5 = omega (arith, node.of_s); lmax_in_bounds_1 = omega (arith, node.of_c); lmax_in_bounds_2 = c.requires.lmax_in_bounds_1; lmax_in_bounds_3 = c.requires.lmax_in_bounds_2; lmax_in_bounds_4 = omega (arith, tables.size, pre.lmax_in_bounds_3); lmax_in_bounds_5 = omega (arith, tables.size, pre.lmax_in_bounds_4); filled = powers_there a.total _ _ powers (omega arith) }
+    record { lmax_bound_1 = pre.v_lt_nodes_2.top; lmax_bound_2 = omega (arith, tables.size, tables.long, powers.long); lmax_bound_3 = omega (arith, tables.size, tables.long, powers.long); lmax_bound_4 = omega (arith, least, tables.size, tables.long, powers.long); lmax_bound_5 = omega (arith, node.of_s); lmax_in_bounds_1 = omega (arith, node.of_c); lmax_in_bounds_2 = c.requires.lmax_in_bounds_1; lmax_in_bounds_3 = c.requires.lmax_in_bounds_2; lmax_in_bounds_4 = omega (arith, tables.size, pre.lmax_in_bounds_3); lmax_in_bounds_5 = omega (arith, tables.size, pre.lmax_in_bounds_4); filled = powers_there a.total _ _ powers (omega arith) }
 
 pub returns : goal.returns
 returns c =

@@ -1,12 +1,10 @@
 -- `nodes::add_nodes` meets its contract: the nodes below v are added, and the tables of the recursion stand. Assumes nothing.
-use Rattle.basin_kernel.specs.NodeLaws.{sums_none, sums_more}
 use Rattle.basin_kernel.specs.Nodes.{TablesIn, kernel_sum}
-use Rattle.matrix.specs.Layout.{Kept, kept_none, kept_then}
+use Rattle.matrix.specs.Layout.{Kept}
 use Rattle.storage.specs.Triangle.{table_size, along}
 use Rattle.storage.specs.Filled.{Filled}
 use mathlib.Core.Bool.{true, false}
-use native.Mathlib.Omega.{arith}
-use mathlib.Core.Path.{◌≡◌, refl, ◌∙◌}
+use mathlib.Core.Path.{◌≡◌}
 use Prim.Native.Nat.{◌-◌, ◌*◌, ◌≤◌}
 use lib.ListN.{length}
 use Rattle.basin_kernel.proofs.nodes.add_nodes.Given as goal

@@ -1,6 +1,5 @@
 -- `rows::add_degree` meets its contract: what its three calls promise. Assumes nothing.
 use native.Mathlib.Omega.{arith}
-use borrow.Author.Rules.{rules}
 use Rattle.basin_kernel.proofs.rows.add_degree.Goals as goal
 
 pub add_row-requires : goal.add_row-requires

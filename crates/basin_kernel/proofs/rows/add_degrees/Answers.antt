@@ -1,13 +1,12 @@
 -- `rows::add_degrees` meets its contract: the degrees below n are added, and the last two rows of q are at hand. Assumes nothing.
-use Rattle.basin_kernel.specs.Rows.{DegreesBelow, degrees_none, degrees_more, degrees_to}
+use Rattle.basin_kernel.specs.Rows.{degrees_none, degrees_more, degrees_to}
 use Rattle.storage.specs.Triangle.{row_start, RowWithin, row_within}
 use Rattle.recursion.specs.Recursion.{sectoral_ratio}
 use Rattle.number.specs.Root.{root_of}
 use Rattle.number.specs.Float64.{◌⊗◌}
 use native.Mathlib.Omega.{arith}
-use mathlib.Core.Path.{◌≡◌, refl, sym, ap, ◌∙◌}
-use Prim.Native.Nat.{ℕ, ◌+◌, ◌-◌, ◌≤◌, ◌<◌}
-use lib.ListN.{length}
+use mathlib.Core.Path.{◌≡◌, refl, sym, ap}
+use Prim.Native.Nat.{ℕ, ◌+◌, ◌≤◌, ◌<◌}
 use Rattle.basin_kernel.proofs.rows.add_degrees.Goals as goal
 
 -- the two rows of a turn are within the tables

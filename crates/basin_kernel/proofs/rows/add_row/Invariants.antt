@@ -1,8 +1,6 @@
 -- `rows::add_row` meets its contract: the orders below m have the node's numbers added. Assumes nothing.
-use Rattle.storage.specs.Filled.{Filled, filled_more, filled_to}
-use Rattle.basin_kernel.specs.Rows.{added_row, row_first, row_next}
-use native.Mathlib.Omega.{arith}
-use mathlib.Core.Path.{refl}
+use Rattle.storage.specs.Filled.{Filled}
+use Rattle.basin_kernel.specs.Rows.{added_row}
 use Prim.Native.Nat.{◌-◌, ◌≤◌}
 use Rattle.basin_kernel.proofs.rows.add_row.Given as goal
 

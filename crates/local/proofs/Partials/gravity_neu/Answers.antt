@@ -1,6 +1,5 @@
 -- `Partials::gravity_neu` meets its contract: the centrifugal term added to the acceleration. Assumes nothing.
 use mathlib.Core.Path.{refl}
-use borrow.Author.Rules.{rules}
 use Rattle.local.proofs.Partials.gravity_neu.Goals as goal
 
 pub returns : goal.returns

@@ -1,14 +1,12 @@
 -- `points::all_points` meets its contract: the points before point i are written. Assumes nothing.
 use Rattle.partials.specs.Promise.{along-row}
 use Rattle.point_sums.specs.Sums.{room_kept}
-use Rattle.local.specs.Point.{along_cell}
-use Rattle.storage.specs.Rectangle.{by_rows, by_rows_more}
-use Rattle.storage.specs.Filled.{Filled, filled_none, filled_to}
+use Rattle.storage.specs.Rectangle.{by_rows_more}
+use Rattle.storage.specs.Filled.{filled_none, filled_to}
 use native.Mathlib.Nat.{mul-le-mul_right}
 use native.Mathlib.Omega.{arith}
-use mathlib.Core.Path.{◌≡◌, refl, ap, ◌∙◌}
-use Prim.Native.Nat.{ℕ, ◌+◌, ◌-◌, ◌*◌, ◌≤◌}
-use lib.ListN.{length}
+use mathlib.Core.Path.{◌≡◌, refl, ap}
+use Prim.Native.Nat.{ℕ, ◌+◌, ◌*◌}
 use Rattle.partials.proofs.points.all_points.Goals as goal
 
 pub loop-i-init : goal.loop-i-init

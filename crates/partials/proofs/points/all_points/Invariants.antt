@@ -1,13 +1,9 @@
 -- `points::all_points` meets its contract: the points before point i are written. Assumes nothing.
-use Rattle.partials.specs.Promise.{along-row}
-use Rattle.point_sums.specs.Sums.{room_kept}
 use Rattle.local.specs.Point.{along_cell}
-use Rattle.storage.specs.Rectangle.{by_rows, by_rows_more}
-use Rattle.storage.specs.Filled.{Filled, filled_none, filled_to}
-use native.Mathlib.Nat.{mul-le-mul_right}
-use native.Mathlib.Omega.{arith}
-use mathlib.Core.Path.{◌≡◌, refl, ap, ◌∙◌}
-use Prim.Native.Nat.{ℕ, ◌+◌, ◌-◌, ◌*◌, ◌≤◌}
+use Rattle.storage.specs.Rectangle.{by_rows}
+use Rattle.storage.specs.Filled.{Filled}
+use mathlib.Core.Path.{◌≡◌}
+use Prim.Native.Nat.{◌-◌, ◌*◌, ◌≤◌}
 use lib.ListN.{length}
 use Rattle.partials.proofs.points.all_points.Given as goal
 

@@ -3,7 +3,6 @@ use Rattle.point_sums.specs.Sums.{room_kept, point_is}
 use Rattle.storage.specs.Filled.{filled_self}
 use native.Mathlib.Omega.{arith}
 use mathlib.Core.Path.{refl}
-use borrow.Author.Rules.{rules}
 use Rattle.partials.proofs.points.point.Goals as goal
 
 pub add_degrees-sums-requires : goal.add_degrees-sums-requires

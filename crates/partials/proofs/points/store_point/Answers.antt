@@ -4,7 +4,6 @@ use Rattle.storage.specs.Filled.{filled_one, filled_more}
 use lib.ListN.{length-set}
 use native.Mathlib.Omega.{arith}
 use mathlib.Core.Path.{refl}
-use borrow.Author.Rules.{rules}
 use Rattle.partials.proofs.points.store_point.Goals as goal
 
 pub bounds-out-at-2 : goal.bounds-out-at-2

@@ -5,7 +5,6 @@ use Rattle.local.specs.Point.{work_size}
 use native.Mathlib.Omega.{arith}
 use Prim.Native.Nat.{◌-◌}
 use lib.ListN.{length, take, drop}
-use borrow.Author.Rules.{rules}
 use Rattle.partials.proofs.workspace.points_in.Goals as goal
 
 pub tables-requires : goal.tables-requires
@@ -38,14 +37,12 @@ pub slice_bounds-w-count : goal.slice_bounds-w-count
 slice_bounds-w-count c =
     let pre = c.requires in
     let long = weights_long c.args.head.nmax c.args.work.now c.tables.ensures in
-    omega (arith, c.b-1.given, pre.accepted.tables.c, pre.accepted.room_work, long)
+    omega (arith, pre.accepted.tables.c, pre.accepted.room_work, long)
 
 pub all_points-requires : goal.all_points-requires
 all_points-requires c =
     let tables = c.tables in
     let sectorals = c.sectorals in
-    let b-now = c.b-1 in
-    let w-now = c.w-1 in
     let a = c.args in
     let q = c.requires in
     let k = q.accepted in
@@ -54,14 +51,12 @@ all_points-requires c =
     let work = tables.new.work in
     let room = length work - total in
     let rest = length (take room (drop total work)) - total in
-    let b = b-now.given in
-    let w = w-now.given in
     let d = sectorals.ensures in record {
       point_room = record {
         top = k.tables.top;
         of_a = omega (arith, k.room_work, long);
-        of_b = omega (arith, b, k.tables.c, k.room_work, long);
-        of_w = omega (arith, w, b, k.tables.c, k.room_work, long);
+        of_b = omega (arith, k.tables.c, k.room_work, long);
+        of_w = omega (arith, k.tables.c, k.room_work, long);
         of_c = omega (arith, k.tables.c);
         of_s = omega (arith, k.tables.s);
         of_sectorals = omega (arith, q.nmax_in_bounds_2, d.long);
@@ -77,7 +72,7 @@ all_points-requires c =
       points_bound_4 = omega (arith, k.orders);
       points_bound_5 = omega (arith, k.room_out);
       tabled_1 = tabled (weights_first a.head.nmax a.work.now tables.ensures (omega (arith, k.room_work))) total room rest k.tables.c
-          (omega (arith, b, k.tables.c, k.room_work, long)) (omega (arith, w, b, k.tables.c, k.room_work, long));
+          (omega (arith, k.tables.c, k.room_work, long)) (omega (arith, k.tables.c, k.room_work, long));
       tabled_2 = filled_self d;
     }
 

@@ -3,7 +3,6 @@ use Rattle.polygon.specs.BreaksLaws.{colatitudes_front, breaks_are}
 use lib.Seq.{length-take-le}
 use native.Mathlib.Omega.{arith}
 use mathlib.Core.Path.{sym}
-use borrow.Author.Rules.{rules}
 use Rattle.polygon.proofs.colatitudes.breaks_in.Goals as goal
 
 pub slice_bounds-rank_distinct-end : goal.slice_bounds-rank_distinct-end

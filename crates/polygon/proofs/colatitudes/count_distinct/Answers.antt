@@ -5,7 +5,7 @@ use Rattle.ranking.specs.Places.{rising}
 use Rattle.ranking.specs.Rising.{length-rising}
 use native.Mathlib.Omega.{arith}
 use mathlib.Core.Path.{◌≡◌, refl, ap, ◌∙◌}
-use Prim.Native.Nat.{ℕ, ◌-◌, ◌≤◌}
+use Prim.Native.Nat.{ℕ}
 use lib.ListN.{length}
 use Rattle.polygon.proofs.colatitudes.count_distinct.Goals as goal
 

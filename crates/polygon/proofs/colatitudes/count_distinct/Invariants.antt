@@ -1,11 +1,9 @@
 -- `count_distinct` meets its contract: the numbers before i are counted. Assumes nothing.
-use Rattle.polygon.specs.Outline.{is_first, number_at, distinct}
+use Rattle.polygon.specs.Outline.{is_first, number_at}
 use Rattle.polygon.specs.Picked.{picked_before}
 use Rattle.ranking.specs.Places.{rising}
-use Rattle.ranking.specs.Rising.{length-rising}
-use native.Mathlib.Omega.{arith}
-use mathlib.Core.Path.{◌≡◌, refl, ap, ◌∙◌}
-use Prim.Native.Nat.{ℕ, ◌-◌, ◌≤◌}
+use mathlib.Core.Path.{◌≡◌}
+use Prim.Native.Nat.{◌-◌, ◌≤◌}
 use lib.ListN.{length}
 use Rattle.polygon.proofs.colatitudes.count_distinct.Given as goal
 

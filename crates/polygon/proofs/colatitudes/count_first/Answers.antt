@@ -1,7 +1,6 @@
 -- `count_first` meets its contract. Assumes nothing.
 use Rattle.polygon.specs.PickedLaws.{counted_more, counted_same}
 use native.Mathlib.Omega.{arith}
-use borrow.Author.Rules.{rules}
 use Rattle.polygon.proofs.colatitudes.count_first.Goals as goal
 
 pub is_first-requires : goal.is_first-requires

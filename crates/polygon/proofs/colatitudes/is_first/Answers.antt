@@ -1,7 +1,6 @@
 -- `is_first` meets its contract. Assumes nothing.
 use Rattle.polygon.specs.BreaksLaws.{first_zero, first_equal, first_other}
 use native.Mathlib.Omega.{arith}
-use borrow.Author.Rules.{rules}
 use Rattle.polygon.proofs.colatitudes.is_first.Goals as goal
 
 pub returns-then-i-eq0 : goal.returns-then-i-eq0

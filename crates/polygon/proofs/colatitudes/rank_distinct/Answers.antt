@@ -3,7 +3,6 @@ use Rattle.polygon.specs.CheckLaws.{room_short, room_enough, count_refused, coun
 use Rattle.storage.specs.Filled.{filled_self}
 use native.Mathlib.Omega.{arith}
 use mathlib.Core.Path.{refl}
-use borrow.Author.Rules.{rules}
 use Rattle.polygon.proofs.colatitudes.rank_distinct.Goals as goal
 
 pub count_distinct-k-requires : goal.count_distinct-k-requires

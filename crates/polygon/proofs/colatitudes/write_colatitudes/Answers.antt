@@ -1,8 +1,6 @@
 -- `write_colatitudes` meets its contract: the colatitudes of the vertices before i are written. Assumes nothing.
-use Rattle.storage.specs.Filled.{Filled, filled_none, filled_more, filled_to}
-use Rattle.polygon.specs.Outline.{colatitude_at}
+use Rattle.storage.specs.Filled.{filled_none, filled_more, filled_to}
 use native.Mathlib.Omega.{arith}
-use Prim.Native.Nat.{◌-◌, ◌≤◌}
 use Rattle.polygon.proofs.colatitudes.write_colatitudes.Goals as goal
 
 pub loop-i-init : goal.loop-i-init

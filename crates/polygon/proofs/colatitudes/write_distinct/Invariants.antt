@@ -1,11 +1,9 @@
 -- `write_distinct` meets its contract: what is kept of the numbers before i is written. Assumes nothing.
-use Rattle.polygon.specs.Outline.{is_first, number_at, distinct}
-use Rattle.polygon.specs.PickedLaws.{PickedIn, picked_none, picked_within, all_picked}
+use Rattle.polygon.specs.Outline.{is_first, number_at}
+use Rattle.polygon.specs.PickedLaws.{PickedIn}
 use Rattle.ranking.specs.Places.{rising}
-use Rattle.ranking.specs.Rising.{length-rising}
-use native.Mathlib.Omega.{arith}
-use mathlib.Core.Path.{◌≡◌, refl, ◌∙◌}
-use Prim.Native.Nat.{◌+◌, ◌-◌, ◌≤◌}
+use mathlib.Core.Path.{◌≡◌}
+use Prim.Native.Nat.{◌-◌, ◌≤◌}
 use lib.ListN.{length}
 use Rattle.polygon.proofs.colatitudes.write_distinct.Given as goal
 

@@ -3,7 +3,6 @@ use Rattle.polygon.specs.Outline.{is_first, number_at}
 use Rattle.polygon.specs.PickedLaws.{counted_more, stored, passed}
 use Rattle.ranking.specs.Places.{rising}
 use native.Mathlib.Omega.{arith}
-use borrow.Author.Rules.{rules}
 use Rattle.polygon.proofs.colatitudes.write_first.Goals as goal
 
 pub is_first-requires : goal.is_first-requires

@@ -1,10 +1,9 @@
 -- `count_crossings` meets its contract: the edges before i are counted. Assumes nothing.
 use Rattle.polygon.specs.Outline.{crosses, crossing, crossings}
 use Rattle.polygon.specs.Picked.{picked_before}
-use borrow.Author.Rules.{rules}
 use native.Mathlib.Omega.{arith}
 use mathlib.Core.Path.{◌≡◌, refl, ap, ◌∙◌}
-use Prim.Native.Nat.{ℕ, ◌-◌, ◌≤◌}
+use Prim.Native.Nat.{ℕ}
 use lib.ListN.{length}
 use Rattle.polygon.proofs.edges.count_crossings.Goals as goal
 

@@ -1,10 +1,8 @@
 -- `count_crossings` meets its contract: the edges before i are counted. Assumes nothing.
-use Rattle.polygon.specs.Outline.{crosses, crossing, crossings}
+use Rattle.polygon.specs.Outline.{crosses, crossing}
 use Rattle.polygon.specs.Picked.{picked_before}
-use borrow.Author.Rules.{rules}
-use native.Mathlib.Omega.{arith}
-use mathlib.Core.Path.{◌≡◌, refl, ap, ◌∙◌}
-use Prim.Native.Nat.{ℕ, ◌-◌, ◌≤◌}
+use mathlib.Core.Path.{◌≡◌}
+use Prim.Native.Nat.{◌-◌, ◌≤◌}
 use lib.ListN.{length}
 use Rattle.polygon.proofs.edges.count_crossings.Given as goal
 

@@ -1,6 +1,5 @@
 -- `count_edge` meets its contract. Assumes nothing.
 use Rattle.polygon.specs.PickedLaws.{counted_more, counted_same}
-use borrow.Author.Rules.{rules}
 use Rattle.polygon.proofs.edges.count_edge.Goals as goal
 
 pub returns-then-crosses : goal.returns-then-crosses

@@ -1,6 +1,5 @@
 -- `crosses` meets its contract. Assumes nothing.
 use Rattle.polygon.specs.Outline.{crosses}
-use borrow.Author.Rules.{rules}
 use Rattle.polygon.proofs.edges.crosses.Goals as goal
 
 pub returns : goal.returns

@@ -1,6 +1,5 @@
 -- `crossing` meets its contract. Assumes nothing.
 use Rattle.polygon.specs.Outline.{crossing}
-use borrow.Author.Rules.{rules}
 use Rattle.polygon.proofs.edges.crossing.Goals as goal
 
 pub returns : goal.returns

@@ -1,7 +1,6 @@
 -- `following` meets its contract: the vertex is the last one, or not. Assumes nothing.
 use Rattle.polygon.specs.EdgeLaws.{following_first, following_next}
 use native.Mathlib.Omega.{arith}
-use borrow.Author.Rules.{rules}
 use Rattle.polygon.proofs.edges.following.Goals as goal
 
 pub returns-then-i-v : goal.returns-then-i-v

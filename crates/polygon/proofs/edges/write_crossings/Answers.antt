@@ -1,9 +1,7 @@
 -- `write_crossings` meets its contract: the crossings of the edges before i are written. Assumes nothing.
-use Rattle.polygon.specs.Outline.{crosses, crossing, crossings}
-use Rattle.polygon.specs.PickedLaws.{PickedIn, picked_none, all_picked}
-use borrow.Author.Rules.{rules}
+use Rattle.polygon.specs.Outline.{crossings}
+use Rattle.polygon.specs.PickedLaws.{picked_none, all_picked}
 use native.Mathlib.Omega.{arith}
-use Prim.Native.Nat.{◌-◌, ◌≤◌}
 use Rattle.polygon.proofs.edges.write_crossings.Goals as goal
 
 pub loop-i-init : goal.loop-i-init

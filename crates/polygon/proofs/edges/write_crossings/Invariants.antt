@@ -1,8 +1,6 @@
 -- `write_crossings` meets its contract: the crossings of the edges before i are written. Assumes nothing.
-use Rattle.polygon.specs.Outline.{crosses, crossing, crossings}
-use Rattle.polygon.specs.PickedLaws.{PickedIn, picked_none, all_picked}
-use borrow.Author.Rules.{rules}
-use native.Mathlib.Omega.{arith}
+use Rattle.polygon.specs.Outline.{crosses, crossing}
+use Rattle.polygon.specs.PickedLaws.{PickedIn}
 use Prim.Native.Nat.{◌-◌, ◌≤◌}
 use Rattle.polygon.proofs.edges.write_crossings.Given as goal
 

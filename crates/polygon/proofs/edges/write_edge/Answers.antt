@@ -1,6 +1,5 @@
 -- `write_edge` meets its contract. Assumes nothing.
 use Rattle.polygon.specs.PickedLaws.{stored, passed}
-use borrow.Author.Rules.{rules}
 use Rattle.polygon.proofs.edges.write_edge.Goals as goal
 
 pub returns-then-crosses : goal.returns-then-crosses

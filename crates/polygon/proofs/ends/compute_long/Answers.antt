@@ -1,7 +1,6 @@
 -- `compute_long` meets its contract. Assumes nothing.
 use Rattle.polygon.specs.EndsLaws.{crossings_few}
 use native.Mathlib.Omega.{arith}
-use borrow.Author.Rules.{rules}
 use Rattle.polygon.proofs.ends.compute_long.Goals as goal
 
 pub write_ends-requires : goal.write_ends-requires

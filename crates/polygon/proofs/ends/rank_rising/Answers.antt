@@ -1,7 +1,6 @@
 -- `rank_rising` meets its contract: the places that are ranked are read. Assumes nothing.
 use Rattle.storage.specs.Filled.{filled_self}
 use native.Mathlib.Omega.{arith}
-use borrow.Author.Rules.{rules}
 use Rattle.polygon.proofs.ends.rank_rising.Goals as goal
 
 pub write_rising-requires : goal.write_rising-requires

@@ -3,7 +3,6 @@ use Rattle.polygon.specs.EndsLaws.{crossings_few, ends_made}
 use lib.Seq.{length-take-le}
 use native.Mathlib.Omega.{arith}
 use mathlib.Core.Path.{refl, sym}
-use borrow.Author.Rules.{rules}
 use Rattle.polygon.proofs.ends.write_ends.Goals as goal
 
 pub write_crossings-requires : goal.write_crossings-requires

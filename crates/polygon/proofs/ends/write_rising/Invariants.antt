@@ -1,10 +1,8 @@
 -- `write_rising` meets its contract: the lowest keys are written. Assumes nothing.
-use Rattle.storage.specs.Elements.{from, from_zero}
-use Rattle.storage.specs.Filled.{Filled, filled_none, filled_more, filled_to}
+use Rattle.storage.specs.Elements.{from}
+use Rattle.storage.specs.Filled.{Filled}
 use Rattle.ranking.specs.Places.{rising}
 use lib.Ieee.{nan}
-use native.Mathlib.Omega.{arith}
-use mathlib.Core.Path.{sym, ◌∙◌}
 use Prim.Native.Nat.{◌-◌, ◌≤◌}
 use Rattle.polygon.proofs.ends.write_rising.Given as goal
 

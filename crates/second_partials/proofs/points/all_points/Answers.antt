@@ -1,14 +1,12 @@
 -- `points::all_points` meets its contract: the points before point i are written. Assumes nothing.
-use Rattle.second_partials.specs.Working.{Worked, worked_none, worked_more}
+use Rattle.second_partials.specs.Working.{worked_none, worked_more}
 use Rattle.second_partials.specs.Promise.{second_row}
-use Rattle.local.specs.Second.{second_cell}
-use Rattle.storage.specs.Rectangle.{by_rows, by_rows_more}
-use Rattle.storage.specs.Filled.{Filled, filled_none, filled_to}
+use Rattle.storage.specs.Rectangle.{by_rows_more}
+use Rattle.storage.specs.Filled.{filled_none, filled_to}
 use native.Mathlib.Nat.{mul-le-mul_right}
 use native.Mathlib.Omega.{arith}
 use mathlib.Core.Path.{◌≡◌, refl, ap}
-use Prim.Native.Nat.{ℕ, ◌+◌, ◌-◌, ◌*◌, ◌≤◌}
-use lib.ListN.{length}
+use Prim.Native.Nat.{ℕ, ◌+◌, ◌*◌}
 use Rattle.second_partials.proofs.points.all_points.Goals as goal
 
 pub loop-i-init : goal.loop-i-init

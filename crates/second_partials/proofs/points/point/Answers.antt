@@ -4,7 +4,6 @@ use Rattle.second_partials.specs.Promise.{point_is}
 use Rattle.storage.specs.Filled.{filled_self}
 use native.Mathlib.Omega.{arith}
 use mathlib.Core.Path.{refl}
-use borrow.Author.Rules.{rules}
 use Rattle.second_partials.proofs.points.point.Goals as goal
 
 pub powers-requires : goal.powers-requires

@@ -4,7 +4,6 @@ use Rattle.storage.specs.Filled.{filled_part, filled_at}
 use native.Mathlib.Omega.{arith}
 use Prim.Native.Nat.{◌+◌, ◌-◌}
 use lib.ListN.{length}
-use borrow.Author.Rules.{rules}
 use Rattle.second_partials.proofs.points.powers.Goals as goal
 
 pub overflow_add-at : goal.overflow_add-at

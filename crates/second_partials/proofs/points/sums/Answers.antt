@@ -5,7 +5,6 @@ use native.Mathlib.Omega.{arith}
 use mathlib.Core.Path.{refl}
 use Prim.Native.Nat.{◌+◌, ◌-◌}
 use lib.ListN.{length, take, drop}
-use borrow.Author.Rules.{rules}
 use Rattle.second_partials.proofs.points.sums.Goals as goal
 
 pub offset_bounds-work-total : goal.offset_bounds-work-total
@@ -18,22 +17,22 @@ pub offset_bounds-b-total : goal.offset_bounds-b-total
 offset_bounds-b-total c = omega (arith, powers_within c.args.nmax c.requires.field_room_1.top, c.requires.field_room_2, c.requires.field_room_4, c.well_formed)
 
 pub slice_bounds-w-count : goal.slice_bounds-w-count
-slice_bounds-w-count c = omega (arith, powers_within c.args.nmax c.requires.field_room_1.top, c.requires.field_room_2, c.requires.field_room_4, c.b-1.given)
+slice_bounds-w-count c = omega (arith, powers_within c.args.nmax c.requires.field_room_1.top, c.requires.field_room_2, c.requires.field_room_4)
 
 pub offset_bounds-w-total : goal.offset_bounds-w-total
 offset_bounds-w-total c = omega (arith, powers_within c.args.nmax c.requires.field_room_1.top, c.requires.field_room_2, c.requires.field_room_4, c.well_formed)
 
 pub slice_bounds-sectorals-count : goal.slice_bounds-sectorals-count
-slice_bounds-sectorals-count c = omega (arith, powers_within c.args.nmax c.requires.field_room_1.top, c.requires.field_room_2, c.requires.field_room_4, c.b-1.given, c.w-1.given)
+slice_bounds-sectorals-count c = omega (arith, powers_within c.args.nmax c.requires.field_room_1.top, c.requires.field_room_2, c.requires.field_room_4)
 
 pub offset_bounds-sectorals-nmax : goal.offset_bounds-sectorals-nmax
 offset_bounds-sectorals-nmax c = omega (arith, powers_within c.args.nmax c.requires.field_room_1.top, c.requires.field_room_2, c.requires.field_room_4, c.well_formed)
 
 pub slice_bounds-rescales-count : goal.slice_bounds-rescales-count
-slice_bounds-rescales-count c = omega (arith, powers_within c.args.nmax c.requires.field_room_1.top, c.requires.field_room_2, c.requires.field_room_4, c.b-1.given, c.w-1.given, c.sectorals-1.given)
+slice_bounds-rescales-count c = omega (arith, powers_within c.args.nmax c.requires.field_room_1.top, c.requires.field_room_2, c.requires.field_room_4)
 
 pub slice_bounds-rescales-start : goal.slice_bounds-rescales-start
-slice_bounds-rescales-start c = omega (arith, powers_within c.args.nmax c.requires.field_room_1.top, c.requires.field_room_2, c.requires.field_room_4, c.b-1.given, c.w-1.given, c.sectorals-1.given)
+slice_bounds-rescales-start c = omega (arith, powers_within c.args.nmax c.requires.field_room_1.top, c.requires.field_room_2, c.requires.field_room_4)
 
 pub add_degrees-requires : goal.add_degrees-requires
 add_degrees-requires c =
@@ -44,10 +43,6 @@ add_degrees-requires c =
     let within = powers_within N h.field_room_1.top in
     let e = h.field_room_2 in
     let room = h.field_room_4 in
-    let b = c.b-1.given in
-    let w = c.w-1.given in
-    let s = c.sectorals-1.given in
-    let r = c.rescales-1.given in
     let i = length l - a.total in
     let b₁ = take i (drop a.total l) in
     let j = length b₁ - a.total in
@@ -58,18 +53,18 @@ add_degrees-requires c =
       second_room = record {
         top = h.field_room_1.top;
         of_a = omega (arith, within, room);
-        of_b = omega (arith, within, room, e, b);
-        of_w = omega (arith, within, room, e, b, w);
+        of_b = omega (arith, within, room, e);
+        of_w = omega (arith, within, room, e);
         of_c = h.field_room_1.of_c;
         of_s = h.field_room_1.of_s;
-        of_sectorals = omega (arith, within, room, e, b, w, s);
-        of_r = omega (arith, within, room, e, b, w, s, r);
+        of_sectorals = omega (arith, within, room, e);
+        of_r = omega (arith, within, room, e);
         of_rows = h.field_room_1.of_rows;
       };
       nmax_in_bounds_1 = h.field_room_3;
-      nmax_in_bounds_2 = tabled h.prepared_1.first a.total i j e (omega (arith, within, room, e, b)) (omega (arith, within, room, e, b, w));
-      nmax_in_bounds_3 = sectorals_standing N l a.total (N + 1) i j k e refl (omega (arith, within, room, e, b)) (omega (arith, within, room, e, b, w))
-          (omega (arith, within, room, e, b, w, s)) h.prepared_1;
-      nmax_in_bounds_4 = powers_standing N l a.total (N + 1) i j k e refl (omega (arith, within, room, e, b)) (omega (arith, within, room, e, b, w))
-          (omega (arith, within, room, e, b, w, s)) g a.u (omega (arith, within, room, e, b, w, s, r)) h.prepared_2 (omega (arith, within, room));
+      nmax_in_bounds_2 = tabled h.prepared_1.first a.total i j e (omega (arith, within, room, e)) (omega (arith, within, room, e));
+      nmax_in_bounds_3 = sectorals_standing N l a.total (N + 1) i j k e refl (omega (arith, within, room, e)) (omega (arith, within, room, e))
+          (omega (arith, within, room, e)) h.prepared_1;
+      nmax_in_bounds_4 = powers_standing N l a.total (N + 1) i j k e refl (omega (arith, within, room, e)) (omega (arith, within, room, e))
+          (omega (arith, within, room, e)) g a.u (omega (arith, within, room, e)) h.prepared_2 (omega (arith, within, room));
     }

@@ -1,7 +1,6 @@
 -- `workspace::compute` meets its contract: the points by what is filled in before them. Assumes nothing.
 use native.Mathlib.Omega.{arith}
 use mathlib.Core.Path.{◌∙◌}
-use borrow.Author.Rules.{rules}
 use Rattle.second_partials.proofs.workspace.compute.Goals as goal
 
 pub prepare-requires : goal.prepare-requires

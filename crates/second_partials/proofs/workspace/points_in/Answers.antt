@@ -1,6 +1,5 @@
 -- `workspace::points_in` meets its contract: all points, in rows of either length. Assumes nothing.
 use native.Mathlib.Omega.{arith}
-use borrow.Author.Rules.{rules}
 use Rattle.second_partials.proofs.workspace.points_in.Goals as goal
 
 pub all_points-requires : goal.all_points-requires
