@@ -1,5 +1,4 @@
 -- `line` meets its contract: the line that is written has the count that the comparison answered. Assumes nothing.
-use borrow.Author.Rules.{rules}
 use Rattle.replay.proofs.line.Goals as goal
 
 pub returns : goal.returns

@@ -1,11 +1,8 @@
 -- `load` meets its contract: the first i numbers are written. Assumes nothing.
-use borrow.Author.Rules.{rules}
 use native.Mathlib.Nat.{zero-add}
 use native.Mathlib.Omega.{arith}
-use mathlib.Core.Path.{◌≡◌, refl, sym, ap, ◌∙◌}
-use Prim.Native.Nat.{◌-◌, ◌≤◌}
-use lib.ListN.{length}
-use Rattle.storage.specs.Filled.{Filled, filled_none, filled_more, filled_to}
+use mathlib.Core.Path.{sym}
+use Rattle.storage.specs.Filled.{filled_none, filled_more, filled_to}
 use Rattle.replay.specs.Answers.{number_at}
 use Rattle.replay.proofs.load.Goals as goal
 

@@ -1,8 +1,7 @@
 -- `same_words` meets its contract: the sum so far counts the first i words. Assumes nothing.
-use borrow.Author.Rules.{rules}
 use native.Mathlib.Omega.{arith}
 use mathlib.Core.Path.{◌≡◌, sym, ap, ◌∙◌}
-use Prim.Native.Nat.{◌+◌, ◌-◌, ◌≤◌}
+use Prim.Native.Nat.{◌+◌}
 use lib.ListN.{length}
 use Rattle.storage.specs.Fold.{fold_left, fold_none, fold_more}
 use Rattle.replay.specs.Answers.{equal_at}

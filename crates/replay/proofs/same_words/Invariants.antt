@@ -1,10 +1,8 @@
 -- `same_words` meets its contract: the sum so far counts the first i words. Assumes nothing.
-use borrow.Author.Rules.{rules}
-use native.Mathlib.Omega.{arith}
-use mathlib.Core.Path.{◌≡◌, sym, ap, ◌∙◌}
+use mathlib.Core.Path.{◌≡◌}
 use Prim.Native.Nat.{◌+◌, ◌-◌, ◌≤◌}
 use lib.ListN.{length}
-use Rattle.storage.specs.Fold.{fold_left, fold_none, fold_more}
+use Rattle.storage.specs.Fold.{fold_left}
 use Rattle.replay.specs.Answers.{equal_at}
 use Rattle.replay.proofs.same_words.Given as goal
 

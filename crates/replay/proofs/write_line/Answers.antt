@@ -1,8 +1,5 @@
 -- `write_line` meets its contract: a number of a word's size has at most 20 digits, so there is room for both. Assumes nothing.
-use borrow.Author.Rules.{rules}
 use native.Mathlib.Omega.{arith}
-use mathlib.Core.Path.{◌∙◌}
-use lib.ListN.{length-set}
 use Rattle.text.specs.Stored.{prefix-stored}
 use Rattle.text.specs.Digits.{length_word}
 use Rattle.replay.proofs.Lines.{length-line, line_parts}

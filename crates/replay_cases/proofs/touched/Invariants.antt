@@ -1,6 +1,4 @@
 -- `touched` meets its contract: of the first i places at most i are changed. Assumes nothing.
-use borrow.Author.Rules.{rules}
-use native.Mathlib.Omega.{arith}
 use Prim.Native.Nat.{◌-◌, ◌≤◌}
 use Rattle.replay_cases.proofs.touched.Given as goal
 

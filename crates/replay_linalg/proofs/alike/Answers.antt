@@ -3,7 +3,6 @@ use native.Mathlib.Omega.{arith}
 use mathlib.Core.Path.{sym}
 use lib.ListN.{length-take}
 use lib.Seq.{length-take-le}
-use borrow.Author.Rules.{rules}
 use Rattle.replay_linalg.proofs.alike.Goals as goal
 
 pub slice_bounds-of_alike-end : goal.slice_bounds-of_alike-end

@@ -1,9 +1,6 @@
 -- `dense` meets its contract: the list keeps its length. Assumes nothing.
-use borrow.Author.Rules.{rules}
-use native.Mathlib.Omega.{arith}
-use mathlib.Core.Path.{◌≡◌, refl}
-use Prim.Native.Nat.{◌-◌}
-use lib.ListN.{length, length-set}
+use mathlib.Core.Path.{refl}
+use lib.ListN.{length-set}
 use Rattle.replay_linalg.proofs.dense.Goals as goal
 
 pub loop-k-init : goal.loop-k-init

@@ -1,9 +1,7 @@
 -- `dense` meets its contract: the list keeps its length. Assumes nothing.
-use borrow.Author.Rules.{rules}
-use native.Mathlib.Omega.{arith}
-use mathlib.Core.Path.{◌≡◌, refl}
+use mathlib.Core.Path.{◌≡◌}
 use Prim.Native.Nat.{◌-◌}
-use lib.ListN.{length, length-set}
+use lib.ListN.{length}
 use Rattle.replay_linalg.proofs.dense.Given as goal
 
 abbrev pub invariant-loop-k : goal.invariant-loop-k

@@ -1,5 +1,4 @@
 -- `entry` meets its contract: a number below 71 is exact as a double. Assumes nothing.
-use borrow.Author.Rules.{rules}
 use native.Mathlib.Omega.{arith}
 use Rattle.number.specs.Whole.{whole}
 use Rattle.replay_linalg.proofs.entry.Goals as goal

@@ -1,5 +1,4 @@
 -- `side` meets its contract: a number below 17 is exact as a double. Assumes nothing.
-use borrow.Author.Rules.{rules}
 use native.Mathlib.Omega.{arith}
 use Rattle.number.specs.Whole.{whole}
 use Rattle.replay_linalg.proofs.side.Goals as goal

@@ -1,9 +1,6 @@
 -- `factors_of` meets its contract: the list keeps its length. Assumes nothing.
-use borrow.Author.Rules.{rules}
-use native.Mathlib.Omega.{arith}
-use mathlib.Core.Path.{◌≡◌, refl}
-use Prim.Native.Nat.{◌-◌}
-use lib.ListN.{length, length-set}
+use mathlib.Core.Path.{refl}
+use lib.ListN.{length-set}
 use Rattle.replay_models.proofs.factors_of.Goals as goal
 
 pub loop-i-init : goal.loop-i-init

@@ -1,9 +1,7 @@
 -- `factors_of` meets its contract: the list keeps its length. Assumes nothing.
-use borrow.Author.Rules.{rules}
-use native.Mathlib.Omega.{arith}
-use mathlib.Core.Path.{◌≡◌, refl}
+use mathlib.Core.Path.{◌≡◌}
 use Prim.Native.Nat.{◌-◌}
-use lib.ListN.{length, length-set}
+use lib.ListN.{length}
 use Rattle.replay_models.proofs.factors_of.Given as goal
 
 abbrev pub invariant-loop-i : goal.invariant-loop-i

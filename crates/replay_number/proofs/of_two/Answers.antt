@@ -1,9 +1,6 @@
 -- `of_two` meets its contract: the list keeps its length. Assumes nothing.
-use borrow.Author.Rules.{rules}
-use native.Mathlib.Omega.{arith}
-use mathlib.Core.Path.{◌≡◌, refl}
-use Prim.Native.Nat.{◌-◌}
-use lib.ListN.{length, length-set}
+use mathlib.Core.Path.{refl}
+use lib.ListN.{length-set}
 use Rattle.replay_number.proofs.of_two.Goals as goal
 
 pub loop-i-init : goal.loop-i-init

@@ -1,6 +1,3 @@
-use Rattle.std.proofs.Common.{◌≡◌, ◌+◌, ◌≤◌, length, ℕ, ◌-◌, ◌*◌, ◌<◌}
-use Rattle.storage.specs.Store.{store}
-use Rattle.text.specs.Digits.{decimal_digits}
 use Rattle.text.proofs.+write_decimal.Given as goal
 
 -- proposed from what the function passes where it calls itself

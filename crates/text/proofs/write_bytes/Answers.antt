@@ -1,12 +1,10 @@
-use lib.ListN.{drop, length-set}
+use lib.ListN.{length-set}
 use native.Mathlib.Nat.{add-zero}
 use Rattle.storage.specs.Store.{store}
 use Rattle.text.specs.Stored.{rest_turn, rest_end}
-use borrow.Author.Rules.{rules}
 use native.Mathlib.Omega.{arith}
-use mathlib.Core.Path.{◌≡◌, refl, ap, ◌∙◌}
-use Prim.Native.Nat.{ℕ, ◌+◌, ◌-◌, ◌≤◌}
-use lib.ListN.{length}
+use mathlib.Core.Path.{refl, ap, ◌∙◌}
+use Prim.Native.Nat.{ℕ, ◌+◌}
 use Rattle.text.proofs.write_bytes.Goals as goal
 
 pub loop-i-init : goal.loop-i-init

@@ -1,11 +1,7 @@
-use lib.ListN.{drop, length-set}
-use native.Mathlib.Nat.{add-zero}
+use lib.ListN.{drop}
 use Rattle.storage.specs.Store.{store}
-use Rattle.text.specs.Stored.{rest_turn, rest_end}
-use borrow.Author.Rules.{rules}
-use native.Mathlib.Omega.{arith}
-use mathlib.Core.Path.{◌≡◌, refl, ap, ◌∙◌}
-use Prim.Native.Nat.{ℕ, ◌+◌, ◌-◌, ◌≤◌}
+use mathlib.Core.Path.{◌≡◌}
+use Prim.Native.Nat.{◌+◌, ◌-◌, ◌≤◌}
 use lib.ListN.{length}
 use Rattle.text.proofs.write_bytes.Given as goal
 

@@ -1,6 +1,5 @@
 use Rattle.variance_report.proofs.Texts.{digit_low, digit_high}
 use native.Mathlib.Omega.{arith}
-use borrow.Author.Rules.{rules}
 use Rattle.variance_report.proofs.hex_digit.Goals as goal
 
 pub returns-then-d-lt10 : goal.returns-then-d-lt10

@@ -1,14 +1,10 @@
-use lib.ListN.{drop, length-set}
+use lib.ListN.{length-set}
 use lib.Ieee.{binary64, of_bits}
-use Rattle.storage.specs.Store.{store}
 use Rattle.variance_report.specs.Report.{numbers_of}
 use Rattle.text.specs.Stored.{rest_turn, rest_end}
 use Rattle.variance_report.proofs.Variances.{length_numbers, number_at}
-use borrow.Author.Rules.{rules}
 use native.Mathlib.Omega.{arith}
-use mathlib.Core.Path.{◌≡◌, refl, ◌∙◌}
-use Prim.Native.Nat.{◌-◌, ◌≤◌}
-use lib.ListN.{length}
+use mathlib.Core.Path.{refl, ◌∙◌}
 use Rattle.variance_report.proofs.numbers_of.Goals as goal
 
 pub loop-k-init : goal.loop-k-init

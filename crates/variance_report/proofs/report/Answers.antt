@@ -1,7 +1,6 @@
 use Rattle.variance_report.proofs.Cases.{told_head, told_size, told_body, told_model, parts}
 use native.Mathlib.Omega.{arith}
 use mathlib.Core.Path.{refl}
-use borrow.Author.Rules.{rules}
 use Rattle.variance_report.proofs.report.Goals as goal
 
 pub returns-then-nmax-gt86 : goal.returns-then-nmax-gt86

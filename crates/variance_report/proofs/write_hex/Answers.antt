@@ -1,12 +1,7 @@
 use lib.ListN.{length-set}
-use Rattle.storage.specs.Store.{store}
-use Rattle.variance_report.specs.Report.{hex_digits}
 use Rattle.variance_report.proofs.Texts.{hex_turn, hex_end}
-use borrow.Author.Rules.{rules}
 use native.Mathlib.Omega.{arith}
-use mathlib.Core.Path.{◌≡◌, refl, ◌∙◌}
-use Prim.Native.Nat.{◌≤◌}
-use lib.ListN.{length}
+use mathlib.Core.Path.{refl, ◌∙◌}
 use Rattle.variance_report.proofs.write_hex.Goals as goal
 
 pub loop-left-init : goal.loop-left-init

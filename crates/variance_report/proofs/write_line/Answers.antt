@@ -1,7 +1,6 @@
 use lib.ListN.{length-set}
 use Rattle.variance_report.proofs.Texts.{length_decimal, length-line, line_parts}
 use native.Mathlib.Omega.{arith}
-use mathlib.Core.Path.{◌∙◌}
 use Rattle.variance_report.proofs.write_line.Goals as goal
 
 pub write_decimal-space-requires : goal.write_decimal-space-requires

@@ -1,13 +1,10 @@
 use mathlib.Core.List.{List}
-use lib.ListN.{drop}
 use lib.Ieee.{nan}
 use Rattle.storage.specs.Store.{store, store_none}
-use Rattle.variance_report.specs.Report.{lines_of}
 use Rattle.variance_report.proofs.Texts.{length_decimal, length-line, lines_turn, lines_length, lines_none}
-use borrow.Author.Rules.{rules}
 use native.Mathlib.Omega.{arith}
-use mathlib.Core.Path.{◌≡◌, refl, sym, ap, ◌∙◌}
-use Prim.Native.Nat.{ℕ, ◌+◌, ◌-◌, ◌*◌, ◌≤◌}
+use mathlib.Core.Path.{refl, sym, ap, ◌∙◌}
+use Prim.Native.Nat.{ℕ}
 use lib.ListN.{length}
 use Rattle.variance_report.proofs.write_lines.Goals as goal
 
@@ -29,5 +26,8 @@ loop-n-preserved c =
 
 pub returns : goal.returns
 returns c =
-    let z = lines_none c.args.variances.now c.loop-n.n (omega arith) in record { value = omega (arith, c.loop-n.invariant.3, ap length z); out_after = sym (store_none c.loop-n.at c.loop-n.out) ∙ ap (λ (t : List ℕ). store c.loop-n.at t c.loop-n.out) (sym z)
-          ∙ c.loop-n.invariant.4 }
+    let z = lines_none c.args.variances.now c.loop-n.n (omega arith) in record {
+      value = omega (arith, c.loop-n.invariant.3, ap length z);
+      out_after = sym (store_none c.loop-n.at c.loop-n.out) ∙ ap (λ (t : List ℕ). store c.loop-n.at t c.loop-n.out) (sym z)
+          ∙ c.loop-n.invariant.4;
+    }

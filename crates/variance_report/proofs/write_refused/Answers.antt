@@ -2,7 +2,6 @@ use lib.ListN.{length-set}
 use Rattle.variance_report.proofs.Texts.{number_small, refused_parts}
 use native.Mathlib.Omega.{arith}
 use mathlib.Core.Path.{refl}
-use borrow.Author.Rules.{rules}
 use Rattle.variance_report.proofs.write_refused.Goals as goal
 
 pub overflow_cast-out : goal.overflow_cast-out

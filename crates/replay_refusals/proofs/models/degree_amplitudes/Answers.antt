@@ -2,7 +2,6 @@
 use native.Mathlib.Omega.{arith}
 use mathlib.Core.Path.{sym}
 use lib.Seq.{length-take-le}
-use borrow.Author.Rules.{rules}
 use Rattle.replay_refusals.proofs.models.degree_amplitudes.Goals as goal
 
 pub slice_bounds-degree_amplitudes-end : goal.slice_bounds-degree_amplitudes-end

@@ -2,7 +2,6 @@
 use native.Mathlib.Omega.{arith}
 use mathlib.Core.Path.{sym}
 use lib.Seq.{length-take-le}
-use borrow.Author.Rules.{rules}
 use Rattle.replay_refusals.proofs.models.set.Goals as goal
 
 pub slice_bounds-set-end-2 : goal.slice_bounds-set-end-2

@@ -2,7 +2,6 @@
 use native.Mathlib.Omega.{arith}
 use mathlib.Core.Path.{sym}
 use lib.Seq.{length-take-le}
-use borrow.Author.Rules.{rules}
 use Rattle.replay_refusals.proofs.tables.dp.Goals as goal
 
 pub slice_bounds-dp-end : goal.slice_bounds-dp-end
