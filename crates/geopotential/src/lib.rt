@@ -8,7 +8,6 @@
 
 pub mod analyses;
 pub mod basins;
-pub mod caps;
 pub mod fields;
 pub mod files;
 pub mod free_regions;
@@ -18,6 +17,7 @@ pub mod matrices;
 pub mod models;
 pub mod numbers;
 pub mod points;
+pub mod polar_caps;
 pub mod tables;
 pub mod tensors;
 pub mod version;

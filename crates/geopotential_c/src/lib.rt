@@ -3,7 +3,6 @@
 
 mod analyses;
 mod basins;
-mod caps;
 mod fields;
 mod files;
 mod free_regions;
@@ -13,6 +12,7 @@ mod matrices;
 mod models;
 mod numbers;
 mod points;
+mod polar_caps;
 mod tables;
 mod tensors;
 mod version;

@@ -2,9 +2,9 @@
 ghost use Rattle.std.specs.Prelude.{◌+◌, ◌≤◌, length};
 
 use crate::answers;
-use geopotential::caps::geopotential_polar_cap;
 use geopotential::lists::geopotential_polar_cap_lengths;
 use geopotential::matrices::{geopotential_householder_ql, geopotential_symmetric_eigen};
+use geopotential::polar_caps::geopotential_polar_cap;
 use replay_cases::MARK;
 use replay_print::{show, show_words};
 use std::io::{Result, Stdout};

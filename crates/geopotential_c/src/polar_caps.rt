@@ -59,7 +59,7 @@ pub extern "C" fn geopotential_polar_cap(
         (cap_work lmax) work.old }
     ensures work_len_unchanged { length work.new ≡ length work.old }
 {
-    geopotential::caps::geopotential_polar_cap(
+    geopotential::polar_caps::geopotential_polar_cap(
         lmax,
         cosine,
         weights,

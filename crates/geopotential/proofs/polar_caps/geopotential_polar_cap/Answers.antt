@@ -2,7 +2,7 @@
 use borrow.Author.Rules.{rules}
 use Rattle.storage.specs.Fill.{length-fill}
 use Rattle.geopotential.specs.Models.{after_length}
-use Rattle.geopotential.proofs.caps.geopotential_polar_cap.Goals as goal
+use Rattle.geopotential.proofs.polar_caps.geopotential_polar_cap.Goals as goal
 
 pub returns : goal.returns
 returns c =
