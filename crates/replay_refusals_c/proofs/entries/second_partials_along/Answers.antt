@@ -1,0 +1,27 @@
+-- `second_partials_along` meets its contract: each part is as long as its length says. Assumes nothing.
+use native.Mathlib.Omega.{arith}
+use mathlib.Core.Path.{sym}
+use lib.Seq.{length-take-le}
+use borrow.Author.Rules.{rules}
+use Rattle.replay_refusals_c.proofs.entries.second_partials_along.Goals as goal
+
+pub slice_bounds-geopotential_second_partials_along-end : goal.slice_bounds-geopotential_second_partials_along-end
+slice_bounds-geopotential_second_partials_along-end c = sym (length-take-le _ _ (omega arith))
+
+pub slice_bounds-geopotential_second_partials_along-end-2 : goal.slice_bounds-geopotential_second_partials_along-end-2
+slice_bounds-geopotential_second_partials_along-end-2 c = sym (length-take-le _ _ (omega arith))
+
+pub slice_bounds-geopotential_second_partials_along-end-3 : goal.slice_bounds-geopotential_second_partials_along-end-3
+slice_bounds-geopotential_second_partials_along-end-3 c = sym (length-take-le _ _ (omega arith))
+
+pub slice_bounds-geopotential_second_partials_along-end-4 : goal.slice_bounds-geopotential_second_partials_along-end-4
+slice_bounds-geopotential_second_partials_along-end-4 c = sym (length-take-le _ _ (omega arith))
+
+pub slice_bounds-geopotential_second_partials_along-end-5 : goal.slice_bounds-geopotential_second_partials_along-end-5
+slice_bounds-geopotential_second_partials_along-end-5 c = sym (length-take-le _ _ (omega arith))
+
+pub slice_bounds-geopotential_second_partials_along-end-7 : goal.slice_bounds-geopotential_second_partials_along-end-7
+slice_bounds-geopotential_second_partials_along-end-7 c = sym (length-take-le _ _ (omega arith))
+
+pub slice_bounds-geopotential_second_partials_along-end-9 : goal.slice_bounds-geopotential_second_partials_along-end-9
+slice_bounds-geopotential_second_partials_along-end-9 c = sym (length-take-le _ _ (omega arith))
