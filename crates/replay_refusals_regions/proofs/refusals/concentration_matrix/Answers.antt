@@ -1,9 +1,7 @@
 -- `concentration_matrix` meets its contract: each part is as long as its length says. Assumes nothing.
 use native.Mathlib.Omega.{arith}
 use mathlib.Core.Path.{sym}
-use lib.ListN.{length}
 use lib.Seq.{length-take-le}
-use borrow.Author.Rules.{rules}
 use Rattle.replay_refusals_regions.proofs.refusals.concentration_matrix.Goals as goal
 
 pub slice_bounds-geopotential_concentration_matrix-end : goal.slice_bounds-geopotential_concentration_matrix-end

@@ -1,9 +1,6 @@
 -- `run` meets its contract: `out` keeps its length. Assumes nothing.
-use borrow.Author.Rules.{rules}
 use native.Mathlib.Omega.{arith}
-use mathlib.Core.Path.{◌≡◌}
-use Prim.Native.Nat.{◌-◌}
-use lib.ListN.{length, length-set}
+use lib.ListN.{length-set}
 use Rattle.replay_refusals_regions.proofs.refusals.run.Goals as goal
 
 pub bounds-out-i-in-loop-i : goal.bounds-out-i-in-loop-i

@@ -1,9 +1,7 @@
 -- `run` meets its contract: `out` keeps its length. Assumes nothing.
-use borrow.Author.Rules.{rules}
-use native.Mathlib.Omega.{arith}
 use mathlib.Core.Path.{◌≡◌}
 use Prim.Native.Nat.{◌-◌}
-use lib.ListN.{length, length-set}
+use lib.ListN.{length}
 use Rattle.replay_refusals_regions.proofs.refusals.run.Given as goal
 
 abbrev pub invariant-loop-i : goal.invariant-loop-i
