@@ -244,15 +244,19 @@ def replay_text():
 
 
 def replay_source():
-    text = ["// Prints, for each of some model files, its name and what `variances` prints for it.", "fn print(name: &[u8], bytes: &[u8]) {"]
-    text += ["    io::write_all(1, name);", "    let mut text = [0u8; 1756];", "    let k = variance_report::report(bytes, &mut text);"]
-    text += ["    io::write_all(1, &text[..k]);", "}", ""]
+    text = ["// Prints, for each of some model files, its name and what `variances` prints for it.", "#![tactic(auto)]", ""]
+    text += ["use std::io::{Result, Stdout, Write};", "", "fn print(mut stdout: Stdout, name: &[u8], bytes: &[u8]) -> Result<()> {"]
+    text += ["    stdout.write_all(name)?;", "    let mut text = [0u8; 1756];", "    let k = variance_report::report(bytes, &mut text);"]
+    text += ["    stdout.write_all(&text[..k])", "}", ""]
     parts = [("print_heads", 0, 8), ("print_damaged", 8, 14), ("print_whole", 14, 17), ("print_dated", 17, None)]
     for part, start, end in parts:
-        text += ["fn %s() {" % part]
-        text += ['    print(b"%s\\n", b"%s");' % (name, "".join("\\x%02x" % b for b in data)) for name, data in replay()[start:end]]
+        text += ["fn %s(stdout: Stdout) -> Result<()> {" % part]
+        calls = ['    print(stdout, b"%s\\n", b"%s")' % (name, "".join("\\x%02x" % b for b in data)) for name, data in replay()[start:end]]
+        text += [call + "?;" for call in calls[:-1]] + calls[-1:]
         text += ["}", ""]
-    return "\n".join(text + ["fn main() {"] + ["    %s();" % part for part, _, _ in parts] + ["}", ""])
+    calls = ["    %s(stdout)" % part for part, _, _ in parts]
+    text += ["fn main(rt: HostRuntime) -> Result<()> {", "    let stdout = rt.stdout();"] + [call + "?;" for call in calls[:-1]] + calls[-1:]
+    return "\n".join(text + ["}", ""])
 
 
 if __name__ == "__main__":
