@@ -72,7 +72,7 @@ def follow(file, name, seen):
 def promises(source):
     """The public functions of a source file without a requires, each with the names in its ensures."""
     text = source.read_text()
-    for found in re.finditer(r'pub fn (\w+)\(', text):
+    for found in re.finditer(r'pub fn (\w+)(?:<[^\n]*?>)?\(', text):
         end = re.search(r"\{\n", text[found.end() :])
         contract = text[found.end() : found.end() + end.start()]
         if "ensures" in contract and "requires" not in contract:
@@ -153,7 +153,7 @@ def kernels(crate):
     library = (crate / "src/lib.rt").read_text()
     for module in [""] + re.findall(r"^pub mod (\w+);", library, re.M):
         text = (crate / f"src/{module or 'lib'}.rt").read_text()
-        for found in re.finditer(r"^ *pub fn (\w+)\(", text, re.M):
+        for found in re.finditer(r"^ *pub fn (\w+)(?:<[^\n]*?>)?\(", text, re.M):
             contract = text[found.end() : found.end() + re.search(r"\{\n", text[found.end() :]).start()]
             if "requires" in contract:
                 yield f"{module}::{found[1]}" if module else found[1]

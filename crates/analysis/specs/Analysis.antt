@@ -1,9 +1,8 @@
 -- The coefficients of a functional's values on a grid of N + 1 rows and 2N + 2 longitudes: the sums over the longitudes and the rows, the division by
 -- the factors, and the checks of the call. Definitions only.
-use Rattle.std.specs.Prelude.{Bool, not, List, ℕ, ◌+◌, ◌*◌, ltb, eqb, get_or, Float}
+use Rattle.std.specs.Prelude.{Bool, not, List, ℕ, ◌+◌, ◌*◌, ltb, eqb, get_or, Float, Result, ⊤}
 use Rattle.std.specs.Float.{nan, binary64}
 use Rattle.refusal.specs.Numbers.{refuse}
-use Rattle.refusal.specs.declared.Answer.{Answer}
 use Rattle.refusal.specs.declared.Refusal.TheVariants.{Size, Length, Love, Space}
 use Rattle.number.specs.Float64.{◌⊗◌, ◌⊘◌, of_whole, two64}
 use Rattle.storage.specs.Checks.{space_check}
@@ -11,6 +10,7 @@ use Rattle.storage.specs.Triangle.{table_size}
 use Rattle.legendre.specs.Directions.{legendre_row}
 use Rattle.rounding.specs.Sums.{zero⁺, running_sum}
 use Rattle.legendre_analysis.specs.Division.{divided}
+use Rattle.refusal.specs.declared.Refusal.{Refusal}
 
 -- the longitudes of a row, and the points of all rows
 abbrev pub longitudes_of : ℕ → ℕ
@@ -65,7 +65,7 @@ analysis_cell factor weights lats sums N n m = divided (factor n) (rows_sum (row
 -- ---- the checks
 -- SIZE of the degree; LENGTH of the values, the weights, the pairs of the latitudes, the cosines and sines; LOVE; SPACE of the working list (3T) and
 -- of the two outputs
-unfoldable pub analysis_check : (nmax values weights lats trig : ℕ) → Bool → (work c s : ℕ) → Answer
+unfoldable pub analysis_check : (nmax values weights lats trig : ℕ) → Bool → (work c s : ℕ) → Result ⊤ Refusal
 analysis_check nmax values weights lats trig lacks work c s =
     refuse (ltb 2700 nmax) Size
     (refuse (not (eqb values (points_of nmax))) Length

@@ -5,17 +5,16 @@ mod rows;
 mod workspace;
 
 ghost use Rattle.std.specs.Prelude.{◌≡◌, ◌*◌, ◌≤◌, length};
-ghost use Rattle.refusal.specs.Numbers.{after, behind};
+ghost use Rattle.refusal.specs.Numbers.{after, behind, outcome, value_if};
 ghost use Rattle.storage.specs.Fill.{fill};
 ghost use Rattle.storage.specs.Triangle.{table_size, along};
 ghost use Rattle.functional.specs.Factor.{factor_of, lacks_love};
-ghost use Rattle.coefficients.specs.Model.{outcome, model_of};
 ghost use Rattle.coefficients.specs.Values.{zero_head};
 ghost use Rattle.analysis.specs.Analysis.{points_of, cosine_sum, sine_sum, analysis_cell, analysis_check};
 
-use coefficients::{Date, Head, Model, TideSystem};
+use coefficients::{Head, TideSystem};
 use functional::Functional;
-use refusal::{Answer, Refusal};
+use refusal::Refusal;
 
 // The points of the grid up to degree nmax: nmax + 1 rows of 2 nmax + 2 longitudes.
 fn grid_points(nmax: usize) -> usize
@@ -37,40 +36,40 @@ fn analysis_check(
     work: usize,
     c: usize,
     s: usize,
-) -> Answer
+) -> Result<(), Refusal>
     ensures { result ≡ analysis_check nmax values weights lats trig lacks work c s }
 {
     if nmax > storage::MAX_DEGREE {
-        return Answer::Refused(Refusal::Size);
+        return Err(Refusal::Size);
     }
     let rows = nmax + 1;
     let points = grid_points(nmax);
     let size = storage::table_size(nmax);
     if values != points {
-        return Answer::Refused(Refusal::Length);
+        return Err(Refusal::Length);
     }
     if weights != rows {
-        return Answer::Refused(Refusal::Length);
+        return Err(Refusal::Length);
     }
     if lats != rows + rows {
-        return Answer::Refused(Refusal::Length);
+        return Err(Refusal::Length);
     }
     if trig != points + points {
-        return Answer::Refused(Refusal::Length);
+        return Err(Refusal::Length);
     }
     if lacks {
-        return Answer::Refused(Refusal::Love);
+        return Err(Refusal::Love);
     }
     if work < 3 * size {
-        return Answer::Refused(Refusal::Space);
+        return Err(Refusal::Space);
     }
     if c < size {
-        return Answer::Refused(Refusal::Space);
+        return Err(Refusal::Space);
     }
     if s < size {
-        return Answer::Refused(Refusal::Space);
+        return Err(Refusal::Space);
     }
-    Answer::Done
+    Ok(())
 }
 
 // The coefficients up to degree nmax of a functional's values at radius r on a grid of nmax + 1 rows, by the weights and the latitudes' pairs of a
@@ -89,8 +88,8 @@ pub fn analysis(
     work: &mut [f64],
     c: &mut [f64],
     s: &mut [f64],
-) -> Model
-    ensures value { result ≡ model_of
+) -> Result<Head, Refusal>
+    ensures value { result ≡ value_if
         (analysis_check nmax (length values.now) (length weights.now) (length latitudes.now)
         (length trig.now) (lacks_love functional (length love.now) nmax) (length work.old)
         (length c.old) (length s.old))
@@ -113,7 +112,7 @@ pub fn analysis(
     ensures work_len_unchanged { length work.new ≡ length work.old }
 {
     let lacks = functional.lacks_love(love.len(), nmax);
-    match analysis_check(
+    analysis_check(
         nmax,
         values.len(),
         weights.len(),
@@ -123,19 +122,15 @@ pub fn analysis(
         work.len(),
         c.len(),
         s.len(),
-    ) {
-        Answer::Refused(e) => Model::Refused(e),
-        Answer::Done => {
-            workspace::compute(
-                functional, love, r, nmax, gm, radius, values, weights, latitudes, trig, work, c, s,
-            );
-            Model::Made(Head {
-                gm,
-                radius,
-                tide_system: TideSystem::Unknown,
-                date: Date::None,
-                nmax,
-            })
-        }
-    }
+    )?;
+    workspace::compute(
+        functional, love, r, nmax, gm, radius, values, weights, latitudes, trig, work, c, s,
+    );
+    Ok(Head {
+        gm,
+        radius,
+        tide_system: TideSystem::Unknown,
+        date: None,
+        nmax,
+    })
 }

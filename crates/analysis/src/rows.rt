@@ -105,16 +105,14 @@ pub fn add_rows(
         (sine_sum values.now trig.now nmax) (nmax + 1)))
         (table_size nmax) s.old s.new }
 {
-    let mut i = 0;
     let mut at = 0;
-    while i <= nmax {
+    for i in 0..nmax + 1 {
         let latitude = legendre::directions::latitude_of(i, latitudes);
         let weight = mean_weight(weights[i], longitudes);
         add_row(
             nmax, latitude, weight, longitudes, at, values, trig, a, b, sectorals, r, even, odd,
             sums, c, s,
         );
-        i = i + 1;
         at = at + longitudes;
     }
 }

@@ -6,16 +6,15 @@ mod nodes;
 mod rows;
 
 ghost use Rattle.std.specs.Prelude.{◌≡◌, ◌*◌, length};
-ghost use Rattle.refusal.specs.Numbers.{after, behind};
+ghost use Rattle.refusal.specs.Numbers.{after, behind, outcome, value_if};
 ghost use Rattle.number.specs.Float64.{one64};
 ghost use Rattle.storage.specs.Fill.{fill};
 ghost use Rattle.storage.specs.Triangle.{table_size, along};
-ghost use Rattle.coefficients.specs.Model.{outcome, model_of};
 ghost use Rattle.coefficients.specs.Values.{zero_head};
 ghost use Rattle.basin_kernel.specs.Kernel.{kernel_c, kernel_s, kernel_check};
 
-use coefficients::{Head, Model};
-use refusal::{Answer, Refusal};
+use coefficients::Head;
+use refusal::Refusal;
 
 // SIZE and LENGTH of the lists of the nodes, then SPACE of the working list and the kernel's tables.
 fn kernel_check(
@@ -29,10 +28,10 @@ fn kernel_check(
     work: usize,
     kc: usize,
     ks: usize,
-) -> Answer
+) -> Result<(), Refusal>
     ensures { result ≡ kernel_check lmax nodes weights latitudes marks s c work kc ks }
 {
-    match regions::nodes_check_to(
+    regions::nodes_check_to(
         storage::MAX_DEGREE,
         lmax,
         nodes,
@@ -41,22 +40,18 @@ fn kernel_check(
         marks,
         s,
         c,
-    ) {
-        Answer::Refused(e) => Answer::Refused(e),
-        Answer::Done => {
-            let total = storage::table_size(lmax);
-            if work < 3 * total {
-                return Answer::Refused(Refusal::Space);
-            }
-            if kc < total {
-                return Answer::Refused(Refusal::Space);
-            }
-            if ks < total {
-                return Answer::Refused(Refusal::Space);
-            }
-            Answer::Done
-        }
+    )?;
+    let total = storage::table_size(lmax);
+    if work < 3 * total {
+        return Err(Refusal::Space);
     }
+    if kc < total {
+        return Err(Refusal::Space);
+    }
+    if ks < total {
+        return Err(Refusal::Space);
+    }
+    Ok(())
 }
 
 // The kernel of a basin to degree lmax, as the coefficients of a field with unit gm and radius; its first number is the basin's share of the sphere. For
@@ -74,8 +69,8 @@ pub fn basin_kernel(
     work: &mut [f64],
     kc: &mut [f64],
     ks: &mut [f64],
-) -> Model
-    ensures value { result ≡ model_of (kernel_check lmax nodes (length weights.now) (length latitudes.now)
+) -> Result<Head, Refusal>
+    ensures value { result ≡ value_if (kernel_check lmax nodes (length weights.now) (length latitudes.now)
         (length marks.now) (length s.now) (length c.now) (length work.old) (length kc.old)
         (length ks.old)) (zero_head one64 one64 lmax) }
     ensures kc_after { kc.new ≡ after (outcome result)
@@ -89,7 +84,7 @@ pub fn basin_kernel(
     ensures work_unchanged_1 { behind (outcome result) (3 * table_size lmax) work.new ≡ behind (outcome result) (3 * table_size lmax) work.old }
     ensures work_unchanged_2 { length work.new ≡ length work.old }
 {
-    match kernel_check(
+    kernel_check(
         lmax,
         nodes,
         weights.len(),
@@ -100,17 +95,13 @@ pub fn basin_kernel(
         work.len(),
         kc.len(),
         ks.len(),
-    ) {
-        Answer::Refused(e) => Model::Refused(e),
-        Answer::Done => {
-            let total = storage::table_size(lmax);
-            // kc lends the room for the tables' guesses before it is cleared: an array would take 43 KB of stack
-            recursion::tables_by(lmax, total, &mut kc[..total], work);
-            let made = Head::zeros(1.0, 1.0, lmax, kc, ks);
-            nodes::add_all(
-                lmax, total, nodes, weights, latitudes, marks, s, c, work, kc, ks,
-            );
-            made
-        }
-    }
+    )?;
+    let total = storage::table_size(lmax);
+    // kc lends the room for the tables' guesses before it is cleared: an array would take 43 KB of stack
+    recursion::tables_by(lmax, total, &mut kc[..total], work);
+    let made = Head::zeros(1.0, 1.0, lmax, kc, ks);
+    nodes::add_all(
+        lmax, total, nodes, weights, latitudes, marks, s, c, work, kc, ks,
+    );
+    made
 }

@@ -89,12 +89,10 @@ fn add_nodes(
         (table_size lmax) ks.old ks.new }
     ensures kept { Kept (3 * total) work.old work.new }
 {
-    let mut v = 0;
-    while v < nodes {
+    for v in 0..nodes {
         add_node(
             lmax, total, v, nodes, weights, latitudes, marks, s, c, work, even, odd, kc, ks,
         );
-        v = v + 1;
     }
 }
 

@@ -31,11 +31,9 @@ fn add_row(
         sums.old sums.new }
 {
     let count = n + 1;
-    let mut m = first;
-    while m < count {
+    for m in first..count {
         sums[at + m] = sums[at + m]
             + weight * (q[m] * r[m]) * (0.5 * (integrals[start + m] + integrals[start + m]));
-        m = m + 1;
     }
 }
 
@@ -116,8 +114,8 @@ pub(crate) fn add_degrees(
 {
     let mut pmm = 1e-280;
     let mut at = 0;
-    let mut n = 0;
-    while n < lmax {
+    for pair in 0..(lmax + 1) / 2 {
+        let n = 2 * pair;
         add_degree(
             n, at, start, t, pmm, weight, a, b, r, s, c, odd, even, kc, ks,
         );
@@ -142,12 +140,10 @@ pub(crate) fn add_degrees(
         );
         at = at_odd + n + 2;
         pmm = legendre::rows::next_sectoral(n + 2, pmm_odd);
-        n = n + 2;
     }
-    if n > lmax {
-        return;
+    if lmax % 2 == 0 {
+        add_degree(
+            lmax, at, start, t, pmm, weight, a, b, r, s, c, odd, even, kc, ks,
+        );
     }
-    add_degree(
-        n, at, start, t, pmm, weight, a, b, r, s, c, odd, even, kc, ks,
-    );
 }

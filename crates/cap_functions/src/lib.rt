@@ -23,9 +23,7 @@ pub fn copy_run(k: usize, first: usize, src: &[f64], to: usize, dst: &mut [f64])
     requires fact_2 { to + k ≤ length dst.old }
     ensures { Filled to (from first src.now nan) k dst.old dst.new }
 {
-    let mut i = 0;
-    while i < k {
+    for i in 0..k {
         dst[to + i] = src[first + i];
-        i = i + 1;
     }
 }

@@ -20,12 +20,10 @@ fn number_order(m: usize, k: usize, f: usize, v: usize, orders: &mut [usize], st
     ensures fact_2 { Filled f (apart_by v k) k starts.old starts.new }
 {
     let mut start = v;
-    let mut col = 0;
-    while col < k {
+    for col in 0..k {
         orders[f + col] = m;
         starts[f + col] = start;
         start = start + k;
-        col = col + 1;
     }
 }
 
@@ -41,13 +39,11 @@ pub fn number_functions(lmax: usize, at: usize, orders: &mut [usize], starts: &m
     let count = lmax + 1;
     let mut f = 0;
     let mut v = at;
-    let mut m = 0;
-    while m < count {
+    for m in 0..count {
         let k = count - m;
         number_order(m, k, f, v, orders, starts);
         f = f + k;
         v = v + crate::square(k);
-        m = m + 1;
     }
 }
 
@@ -71,13 +67,11 @@ fn write_functions(
     ensures fact_1 { Filled 0 (picked_order places.now order.now) n orders.old orders.new }
     ensures fact_2 { Filled 0 (picked_number at places.now work.now) n concentrations.old concentrations.new }
 {
-    let mut i = 0;
-    while i < n {
-        let f = ranking::index(places[i]);
+    for i in 0..n {
+        let f = usize::from(places[i]);
         let m = order[f];
         orders[i] = m as f64;
         concentrations[i] = work[at + f];
-        i = i + 1;
     }
 }
 
@@ -100,14 +94,12 @@ fn write_vectors(
         vectors.old vectors.new }
 {
     let mut v = 0;
-    let mut i = 0;
-    while i < n {
-        let f = ranking::index(places[i]);
+    for i in 0..n {
+        let f = usize::from(places[i]);
         let m = order[f];
         let k = lmax - m + 1;
         crate::copy_run(k, starts[f], work, v, vectors);
         v = v + k;
-        i = i + 1;
     }
 }
 

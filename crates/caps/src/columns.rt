@@ -32,11 +32,9 @@ pub fn column(
     let mut q1 = sectoral;
     let mut q2 = 0.0;
     let mut at = start;
-    let mut i = 0;
-    while i < k {
+    for i in 0..k {
         col[i] = q1 * rescale;
-        i = i + 1;
-        at = at + m + i;
+        at = at + m + (i + 1);
         let q = work[at] * t * q1 - work[total + at] * q2;
         q2 = q1;
         q1 = q;

@@ -51,10 +51,8 @@ fn row(m: usize, k: usize, i: usize, at: usize, lmax: usize, x0: f64, g: &mut [f
     requires fact_4 { at + k ≤ length g.old }
     ensures { Filled at (grunbaum_cell lmax m x0 i) k g.old g.new }
 {
-    let mut j = 0;
-    while j < k {
+    for j in 0..k {
         g[at + j] = cell(m, i, j, lmax, x0);
-        j = j + 1;
     }
 }
 
@@ -66,10 +64,8 @@ pub fn grunbaum(m: usize, k: usize, lmax: usize, x0: f64, g: &mut [f64])
     ensures { Filled 0 (by_rows (grunbaum_cell lmax m x0) k) (k * k) g.old g.new }
 {
     let mut at = 0;
-    let mut i = 0;
-    while i < k {
+    for i in 0..k {
         row(m, k, i, at, lmax, x0, g);
         at = at + k;
-        i = i + 1;
     }
 }

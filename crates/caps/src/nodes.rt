@@ -30,10 +30,8 @@ pub(crate) fn add_row(k: usize, at: usize, x: f64, p: f64, col: &[f64], work: &m
     requires fact_2 { at + k ≤ length work.old }
     ensures { Filled at (added_cell (x ⊗ p) col.now work.old at) k work.old work.new }
 {
-    let mut j = 0;
-    while j < k {
+    for j in 0..k {
         work[at + j] = work[at + j] + x * p * col[j];
-        j = j + 1;
     }
 }
 
@@ -45,11 +43,9 @@ fn add_node(k: usize, at: usize, x: f64, col: &[f64], work: &mut [f64])
     ensures { Filled at (by_rows (added_node k x col.now work.old at) k) (k * k) work.old work.new }
 {
     let mut row = at;
-    let mut i = 0;
-    while i < k {
+    for i in 0..k {
         add_row(k, row, x, col[i], col, work);
         row = row + k;
-        i = i + 1;
     }
 }
 
@@ -108,8 +104,7 @@ pub fn concentration(
 {
     let factor = factor(m, x0);
     clear(k, at, work);
-    let mut i = 0;
-    while i <= lmax {
+    for i in 0..lmax + 1 {
         let latitude = legendre::directions::latitude_of(i, latitudes);
         let x = factor * weights[i];
         node(
@@ -125,7 +120,6 @@ pub fn concentration(
             col,
             work,
         );
-        i = i + 1;
     }
 }
 
@@ -143,10 +137,8 @@ pub fn first_rescales(count: usize, rescales: &mut [f64])
     requires { count ≤ length rescales.old }
     ensures { Filled 0 first_rescale count rescales.old rescales.new }
 {
-    let mut i = 0;
-    while i < count {
+    for i in 0..count {
         rescales[i] = 1.0 / 1e-280;
-        i = i + 1;
     }
 }
 
@@ -156,10 +148,8 @@ pub fn next_rescales(count: usize, latitudes: &[f64], rescales: &mut [f64])
     requires fact_2 { count + count ≤ length latitudes.now }
     ensures { Filled 0 (next_rescale latitudes.now rescales.old) count rescales.old rescales.new }
 {
-    let mut i = 0;
-    while i < count {
+    for i in 0..count {
         let latitude = legendre::directions::latitude_of(i, latitudes);
         rescales[i] = rescales[i] * latitude.u;
-        i = i + 1;
     }
 }

@@ -15,11 +15,9 @@ fn product_row(k: usize, row: usize, work: &[f64], vectors: &[f64], y: &mut [f64
 {
     storage::clear(k, y);
     let mut at = 0;
-    let mut j = 0;
-    while j < k {
+    for j in 0..k {
         crate::nodes::add_row(k, 0, work[row + j], 1.0, &vectors[at..], y);
         at = at + k;
-        j = j + 1;
     }
 }
 
@@ -30,10 +28,8 @@ fn add_products(k: usize, at: usize, y: &[f64], vectors: &[f64], sums: &mut [f64
     requires fact_3 { k ≤ length sums.old }
     ensures { Filled 0 (added_product at y.now vectors.now sums.old) k sums.old sums.new }
 {
-    let mut col = 0;
-    while col < k {
+    for col in 0..k {
         sums[col] = sums[col] + vectors[at + col] * y[col];
-        col = col + 1;
     }
 }
 
@@ -56,11 +52,9 @@ pub fn quotients(
 {
     storage::clear(k, sums);
     let mut row = 0;
-    let mut i = 0;
-    while i < k {
+    for i in 0..k {
         product_row(k, at + row, work, vectors, y);
         add_products(k, row, y, vectors, sums);
         row = row + k;
-        i = i + 1;
     }
 }

@@ -1,32 +1,30 @@
 -- Change request W6, on what calls of `truncated` hand back, whatever their lists held: cutting a field at A and then at B is cutting it at the smaller,
 -- for every field and all cuts, above the field's degree and above 2700 too. Assumes nothing.
-use Rattle.std.specs.Prelude.{◌≡◌, refl, List, ℕ, ◌+◌, ◌≤◌, min, length, take, Float}
+use Rattle.std.specs.Prelude.{◌≡◌, refl, List, ℕ, ◌+◌, ◌≤◌, min, length, take, Float, Ok, Result}
 use Rattle.std.proofs.Common.{sym, ap, ap₂, ◌∙◌, subst, zero-add, arith, get_or-take}
 use Rattle.std.specs.Float.{nan}
-use Rattle.refusal.specs.Numbers.{after}
-use Rattle.refusal.specs.declared.Answer.TheVariants.{Done}
+use Rattle.refusal.specs.Numbers.{after, done_then, outcome, value_if}
 use Rattle.storage.specs.Answers.{size_of, size_is}
-use Rattle.storage.specs.Checks.{tables_check, space_check, outputs_check, tables_done, done_then, outputs_passed}
+use Rattle.storage.specs.Checks.{tables_check, space_check, outputs_check, tables_done, outputs_passed}
 use Rattle.storage.specs.Elements.{from, from_zero}
 use Rattle.storage.specs.Fill.{fill, fill_same}
 use Rattle.storage.specs.Filled.{filled, filled_in, filled_length}
 use Rattle.storage.specs.Triangle.{table_size, row_start_monotone}
 use Rattle.coefficients.specs.declared.Head.{Head}
-use Rattle.coefficients.specs.declared.Model.{Model}
-use Rattle.coefficients.specs.declared.Model.TheVariants.{Made}
-use Rattle.coefficients.specs.Model.{outcome, model_of, made_of}
+use Rattle.coefficients.specs.Model.{made_of}
 use Rattle.coefficients.specs.Values.{cut_head}
+use Rattle.refusal.specs.declared.Refusal.{Refusal}
 
 -- `truncated` at a cut, of the field with the head h and the lists c and s, with the lists x and y to write to, answers r and leaves x' and y': its
 -- promise, which is proved by way of this record
-pub record Cut (h : Head) (c s : List Float) (cut : ℕ) (x y : List Float) (r : Model) (x' y' : List Float) : Type 0 where
-  pub answers : r ≡ model_of (outputs_check h.nmax (length c) (length s) (min cut h.nmax) (length x) (length y)) (cut_head h cut)
+pub record Cut (h : Head) (c s : List Float) (cut : ℕ) (x y : List Float) (r : Result Head Refusal) (x' y' : List Float) : Type 0 where
+  pub answers : r ≡ value_if (outputs_check h.nmax (length c) (length s) (min cut h.nmax) (length x) (length y)) (cut_head h cut)
   pub leaves_c : x' ≡ after (outcome r) (fill 0 (from 0 c nan) (table_size (min cut h.nmax)) x) x
   pub leaves_s : y' ≡ after (outcome r) (fill 0 (from 0 s nan) (table_size (min cut h.nmax)) y) y
 
 -- the promise as the call states it
-pub cut_promise : (h : Head) (c s : List Float) (cut : ℕ) (x y : List Float) {r : Model} {x' y' : List Float} → Cut h c s cut x y r x' y'
-    → (r ≡ model_of (outputs_check h.nmax (length c) (length s) (min cut h.nmax) (length x) (length y)) (cut_head h cut))
+pub cut_promise : (h : Head) (c s : List Float) (cut : ℕ) (x y : List Float) {r : Result Head Refusal} {x' y' : List Float} → Cut h c s cut x y r x' y'
+    → (r ≡ value_if (outputs_check h.nmax (length c) (length s) (min cut h.nmax) (length x) (length y)) (cut_head h cut))
     × ((x' ≡ after (outcome r) (fill 0 (from 0 c nan) (table_size (min cut h.nmax)) x) x)
     × (y' ≡ after (outcome r) (fill 0 (from 0 s nan) (table_size (min cut h.nmax)) y) y))
 cut_promise h c s cut x y w = (w.answers, (w.leaves_c, w.leaves_s))
@@ -39,7 +37,7 @@ head_cut h A B =
     ap (λ (n : ℕ). record { gm = h.gm; radius = h.radius; tide_system = h.tide_system; date = h.date; nmax = n }) e
 
 -- where the lists that are read pass, the room decides
-room_decides : (N clen slen top a b : ℕ) → Done ≡ tables_check N clen slen → outputs_check N clen slen top a b ≡ space_check (size_of top) a b
+room_decides : (N clen slen top a b : ℕ) → Ok tt ≡ tables_check N clen slen → outputs_check N clen slen top a b ≡ space_check (size_of top) a b
 unfolding outputs_check
 room_decides N clen slen top a b h = sym (done_then h refl)
 
@@ -60,9 +58,9 @@ module _ (list out : List Float) {out' : List Float} (n : ℕ) (top : n ≤ 2700
       ∙ get_or-take (table_size n) out' i nan (omega arith)
       ∙ filled_in {i = i} {j = i} nan (filled 0 (from 0 list nan) (table_size n) out wrote) (omega arith) (sym (zero-add i)) (omega arith))
 
-module _ (h : Head) (A B : ℕ) {c s x y x' y' v w v' w' : List Float} {r : Model} where
+module _ (h : Head) (A B : ℕ) {c s x y x' y' v w v' w' : List Float} {r : Result Head Refusal} where
   -- the second cut is of the head that the first made
-  cut_made : Cut h c s A x y (Made (cut_head h A)) x' y' → Done ≡ outputs_check h.nmax (length c) (length s) (min A h.nmax) (length x) (length y)
+  cut_made : Cut h c s A x y (Ok (cut_head h A)) x' y' → Ok tt ≡ outputs_check h.nmax (length c) (length s) (min A h.nmax) (length x) (length y)
       → Cut (cut_head h A) (take (table_size (min A h.nmax)) x') (take (table_size (min A h.nmax)) y') B v w r v' w' → Cut h c s (min A B) v w r v' w'
   cut_made first ok second =
       let n = min A h.nmax in
@@ -77,7 +75,7 @@ module _ (h : Head) (A B : ℕ) {c s x y x' y' v w v' w' : List Float} {r : Mode
       record {
         answers =
             second.answers
-            ∙ ap₂ model_of (reads ∙ ap (λ (j : ℕ). space_check (size_of j) (length v) (length w)) e ∙ sym whole) (head_cut h A B);
+            ∙ ap₂ value_if (reads ∙ ap (λ (j : ℕ). space_check (size_of j) (length v) (length w)) e ∙ sym whole) (head_cut h A B);
         leaves_c =
             second.leaves_c
             ∙ ap (λ (l : List Float). after (outcome r) l v) (part_copied c x n top first.leaves_c o.first (min B n) v (omega arith) ∙ ap (λ (j : ℕ). fill 0 (from 0 c nan) (table_size j) v) e);
@@ -88,19 +86,19 @@ module _ (h : Head) (A B : ℕ) {c s x y x' y' v w v' w' : List Float} {r : Mode
 
   -- a field that is cut at A, and what was made of it cut at B, is handed back as it is by a cut at the smaller: the head, its date with it, the lists, and
   -- the answer, refused or not
-  pub cut_cut : {k : Head} → Cut h c s A x y (Made k) x' y' → Cut k (take (table_size k.nmax) x') (take (table_size k.nmax) y') B v w r v' w'
+  pub cut_cut : {k : Head} → Cut h c s A x y (Ok k) x' y' → Cut k (take (table_size k.nmax) x') (take (table_size k.nmax) y') B v w r v' w'
       → Cut h c s (min A B) v w r v' w'
   cut_cut {k} first second =
       let (ok, e) = made_of _ (cut_head h A) k first.answers in
-      cut_made (subst (λ (z : Head). Cut h c s A x y (Made z) x' y') e first) ok
+      cut_made (subst (λ (z : Head). Cut h c s A x y (Ok z) x' y') e first) ok
       (subst (λ (z : Head). Cut z (take (table_size z.nmax) x') (take (table_size z.nmax) y') B v w r v' w') e second)
 
 -- the promise leaves nothing open: two calls with the same lists hand back the same, so those of the cut of a cut and of the single cut
-pub cut_determined : {h : Head} {c s : List Float} {cut : ℕ} {x y : List Float} {r r' : Model} {x₁ y₁ x₂ y₂ : List Float}
+pub cut_determined : {h : Head} {c s : List Float} {cut : ℕ} {x y : List Float} {r r' : Result Head Refusal} {x₁ y₁ x₂ y₂ : List Float}
     → Cut h c s cut x y r x₁ y₁ → Cut h c s cut x y r' x₂ y₂ → (r ≡ r') × (x₁ ≡ x₂) × (y₁ ≡ y₂)
 cut_determined {h} {c} {s} {cut} {x} {y} one two =
     let e = one.answers ∙ sym two.answers in (
       e,
-      one.leaves_c ∙ ap (λ (z : Model). after (outcome z) (fill 0 (from 0 c nan) (table_size (min cut h.nmax)) x) x) e ∙ sym two.leaves_c,
-      one.leaves_s ∙ ap (λ (z : Model). after (outcome z) (fill 0 (from 0 s nan) (table_size (min cut h.nmax)) y) y) e ∙ sym two.leaves_s,
+      one.leaves_c ∙ ap (λ (z : Result Head Refusal). after (outcome z) (fill 0 (from 0 c nan) (table_size (min cut h.nmax)) x) x) e ∙ sym two.leaves_c,
+      one.leaves_s ∙ ap (λ (z : Result Head Refusal). after (outcome z) (fill 0 (from 0 s nan) (table_size (min cut h.nmax)) y) y) e ∙ sym two.leaves_s,
     )

@@ -1,18 +1,14 @@
 -- Document 01's numbers of a tide system and of an answer that makes a field, and a date as C has it. Assumes nothing.
-use Rattle.std.specs.Prelude.{◌≡◌, refl, cond, ℕ, zero, suc, ◌≤◌, eqb, ℤ, pos}
+use Rattle.std.specs.Prelude.{◌≡◌, refl, Bool, true, false, not, cond, ℕ, zero, suc, ◌≤◌, eqb, ℤ, pos, Err, None, Ok, Option, Result, Some, ⊤}
+use Rattle.std.specs.Bool.{then_some}
+use Rattle.std.specs.Int.{from_bool}
+use Rattle.std.specs.Option.{is_some}
 use Rattle.std.proofs.Common.{ap, arith}
-use Rattle.refusal.specs.Numbers.{answer_number}
 use Rattle.refusal.specs.declared.Refusal.{Refusal}
-use Rattle.refusal.specs.declared.Answer.{Answer}
-use Rattle.refusal.specs.declared.Answer.TheVariants.{Done}
-use Rattle.refusal.specs.declared.Answer.TheVariants.{Refused as NotDone}
-use Rattle.coefficients.specs.declared.Date.{Date}
-use Rattle.coefficients.specs.declared.Date.TheVariants.{None, Days}
 use Rattle.coefficients.specs.declared.Head.{Head}
-use Rattle.coefficients.specs.declared.Model.{Model}
-use Rattle.coefficients.specs.declared.Model.TheVariants.{Made, Refused}
 use Rattle.coefficients.specs.declared.TideSystem.{TideSystem}
 use Rattle.coefficients.specs.declared.TideSystem.TheVariants.{TideFree, ZeroTide, MeanTide, Unknown}
+use Rattle.refusal.specs.Numbers.{value_if}
 
 -- ---- the number of a tide system, in a model file and at the entries for C
 abbrev pub tide_number : TideSystem → ℕ
@@ -46,45 +42,42 @@ tide_forth (suc (suc (suc zero))) h = refl
 tide_forth (suc (suc (suc (suc b)))) h = absurd (omega arith)
 
 -- ---- a date at the entries for C: whether one is stated, 0 or 1, and the day count, 0 where none is
-abbrev pub dated_number : Date → ℕ
+abbrev pub dated_number : Option ℤ → ℕ
 dated_number None = 0
-dated_number (Days d) = 1
+dated_number (Some d) = 1
 
-abbrev pub day_count : Date → ℤ
+abbrev pub day_count : Option ℤ → ℤ
 day_count None = pos 0
-day_count (Days d) = d
+day_count (Some d) = d
 
 -- the date of the two; every number but 0 states one
-abbrev pub date_of : ℕ → ℤ → Date
-date_of dated days = cond (eqb dated 0) None (Days days)
+abbrev pub date_of : ℕ → ℤ → Option ℤ
+date_of dated days = cond (eqb dated 0) None (Some days)
 
-pub date_back : (d : Date) → date_of (dated_number d) (day_count d) ≡ d
+pub dated_is : (d : Option ℤ) → from_bool (is_some d) ≡ dated_number d
+dated_is None = refl
+dated_is (Some d) = refl
+
+pub date_by_test : (b : Bool) (days : ℤ) → then_some (not b) days ≡ cond b None (Some days)
+date_by_test true days = refl
+date_by_test false days = refl
+
+pub date_is : (dated : ℕ) (days : ℤ) → then_some (not (eqb dated 0)) days ≡ date_of dated days
+date_is dated days = date_by_test (eqb dated 0) days
+
+pub date_back : (d : Option ℤ) → date_of (dated_number d) (day_count d) ≡ d
 date_back None = refl
-date_back (Days d) = refl
+date_back (Some d) = refl
 
 -- ---- an answer that makes a field
 
--- whether a field was made, or why not
-abbrev pub outcome : Model → Answer
-outcome (Made h) = Done
-outcome (Refused e) = NotDone e
+pub model_refused : {a : Result ⊤ Refusal} (e : Refusal) (h : Head) → Err e ≡ a → Err e ≡ value_if a h
+model_refused e h g = ap (λ (x : Result ⊤ Refusal). value_if x h) g
 
--- 0 where a field was made, else the number of the refusal
-abbrev pub model_number : Model → ℕ
-model_number a = answer_number (outcome a)
-
--- the field with the head h, where the checks are passed
-abbrev pub model_of : Answer → Head → Model
-model_of Done h = Made h
-model_of (NotDone e) h = Refused e
-
-pub model_refused : {a : Answer} (e : Refusal) (h : Head) → NotDone e ≡ a → Refused e ≡ model_of a h
-model_refused e h g = ap (λ (x : Answer). model_of x h) g
-
-pub model_made : {a : Answer} (h : Head) → Done ≡ a → Made h ≡ model_of a h
-model_made h g = ap (λ (x : Answer). model_of x h) g
+pub model_made : {a : Result ⊤ Refusal} (h : Head) → Ok tt ≡ a → Ok h ≡ value_if a h
+model_made h g = ap (λ (x : Result ⊤ Refusal). value_if x h) g
 
 -- a field that was made: its checks are passed
-pub made_of : (a : Answer) (h k : Head) → Made k ≡ model_of a h → (Done ≡ a) × (k ≡ h)
-made_of Done h k e = (refl, cc)
-made_of (NotDone f) h k e = absurd (let z : ◌≡◌ {A = ℕ} 0 1 = cc in omega arith)
+pub made_of : (a : Result ⊤ Refusal) (h k : Head) → Ok k ≡ value_if a h → (Ok tt ≡ a) × (k ≡ h)
+made_of (Ok _) h k e = (refl, cc)
+made_of (Err f) h k e = absurd (let z : ◌≡◌ {A = ℕ} 0 1 = cc in omega arith)

@@ -1,5 +1,5 @@
 -- What the calls make of the coefficients: entries, heads, degree variances and degree amplitudes. Assumes nothing.
-use Rattle.std.specs.Prelude.{◌≡◌, refl, List, ℕ, ◌+◌, min, get_or, Float}
+use Rattle.std.specs.Prelude.{◌≡◌, refl, List, ℕ, ◌+◌, min, get_or, Float, None}
 use Rattle.std.proofs.Common.{ap, ◌∙◌}
 use Rattle.std.specs.Float.{nan}
 use Rattle.number.specs.Float64.{◌⊕◌, ◌⊗◌, zero64}
@@ -13,7 +13,6 @@ use Rattle.functional.specs.Factor.{factor_of}
 use Rattle.functional.specs.declared.Functional.{Functional}
 use Rattle.coefficients.specs.declared.Head.{Head}
 use Rattle.coefficients.specs.declared.TideSystem.TheVariants.{Unknown}
-use Rattle.coefficients.specs.declared.Date.TheVariants.{None}
 
 -- ---- the heads of the fields that are made
 abbrev pub zero_head : Float → Float → ℕ → Head

@@ -16,12 +16,10 @@ fn degree_sum(at: usize, n: usize, c: &[f64], s: &[f64]) -> f64
 {
     let count = n + 1;
     let mut sum = 0.0;
-    let mut m = 0;
-    while m < count {
+    for m in 0..count {
         let cnm = c[at + m];
         let snm = s[at + m];
         sum = sum + (cnm * cnm + snm * snm);
-        m = m + 1;
     }
     sum
 }
@@ -45,15 +43,13 @@ fn two_degree_sums(at: usize, n: usize, c: &[f64], s: &[f64]) -> RowSums
     let next = at + n + 1;
     let mut first = 0.0;
     let mut second = 0.0;
-    let mut order = 0;
-    while order < count {
+    for order in 0..count {
         let cn = c[at + order];
         let sn = s[at + order];
         let cnext = c[next + order];
         let snext = s[next + order];
         first = first + (cn * cn + sn * sn);
         second = second + (cnext * cnext + snext * snext);
-        order = order + 1;
     }
     let clast = c[next + count];
     let slast = s[next + count];
@@ -72,16 +68,15 @@ pub fn variances(nmax: usize, c: &[f64], s: &[f64], out: &mut [f64])
     ensures { Filled 0 (variance_of c.now s.now) (nmax + 1) out.old out.new }
 {
     let mut at = 0;
-    let mut n = 0;
-    while n < nmax {
+    for pair in 0..(nmax + 1) / 2 {
+        let n = 2 * pair;
         let sums = two_degree_sums(at, n, c, s);
         out[n] = sums.first;
         out[n + 1] = sums.second;
         at = at + (2 * n + 3);
-        n = n + 2;
     }
-    if n <= nmax {
-        out[n] = degree_sum(at, n, c, s);
+    if nmax % 2 == 0 {
+        out[nmax] = degree_sum(at, nmax, c, s);
     }
 }
 
@@ -120,9 +115,7 @@ pub fn amplitudes(
         out.old out.new }
 {
     variances(nmax, c, s, out);
-    let mut n = 0;
-    while n <= nmax {
+    for n in 0..nmax + 1 {
         out[n] = amplitude(functional, love, gm, radius, n, out[n]);
-        n = n + 1;
     }
 }

@@ -12,10 +12,8 @@ pub fn copy(size: usize, list: &[f64], out: &mut [f64])
     requires fact_2 { size ≤ length out.old }
     ensures { Filled 0 (from 0 list.now nan) size out.old out.new }
 {
-    let mut k = 0;
-    while k < size {
+    for k in 0..size {
         out[k] = list[k];
-        k = k + 1;
     }
 }
 
@@ -26,10 +24,8 @@ fn scale_row(at: usize, n: usize, f: f64, list: &[f64], out: &mut [f64])
     ensures { Filled at (scaled_from f at list.now) (n + 1) out.old out.new }
 {
     let count = n + 1;
-    let mut m = 0;
-    while m < count {
+    for m in 0..count {
         out[at + m] = list[at + m] * f;
-        m = m + 1;
     }
 }
 
@@ -52,12 +48,10 @@ pub fn rescale(
     ensures filled_2 { Filled 0 (along (rescaled_entry q t s.now)) (table_size nmax) outs.old outs.new }
 {
     let mut at = 0;
-    let mut n = 0;
-    while n <= nmax {
+    for n in 0..nmax + 1 {
         let f = q * number::powi(t, n);
         scale_row(at, n, f, c, outc);
         scale_row(at, n, f, s, outs);
         at = at + n + 1;
-        n = n + 1;
     }
 }

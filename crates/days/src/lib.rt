@@ -8,20 +8,12 @@ ghost use Rattle.days.specs.Days.{pattern_of, days_of};
 pub fn days_pattern(days: i32) -> u32
     ensures { result ≡ pattern_of days }
 {
-    if days < 0 {
-        let below = -1 - days;
-        return 4294967295 - below as u32;
-    }
-    days as u32
+    days.cast_unsigned()
 }
 
 // The day count of 32 bits.
 pub fn days_of(pattern: u32) -> i32
     ensures { result ≡ days_of pattern }
 {
-    if pattern < 2147483648 {
-        return pattern as i32;
-    }
-    let below = (4294967295 - pattern) as i32;
-    -1 - below
+    pattern.cast_signed()
 }

@@ -15,10 +15,8 @@ fn roots(last: usize, out: &mut [f64])
     requires fact_1 { last ≤ 5400 }
     requires fact_2 { last < length out.old }
 {
-    let mut k = 0;
-    while k <= last {
+    for k in 0..last + 1 {
         out[k] = number::root(k as f64);
-        k = k + 1;
     }
 }
 
@@ -50,12 +48,10 @@ fn lower_weights(n: usize, at: usize, root: &[f64], w: &mut [f64])
 {
     let nf = n as f64;
     let mut lower = first_lower(n, root[n] * root[n + 1]);
-    let mut m = 1;
     let mut mf = 1.0;
-    while m < n {
+    for m in 1..n {
         w[at + m] = lower;
         lower = number::root_near((nf - mf) * (nf + mf + 1.0), root[n - m] * root[n + m + 1]);
-        m = m + 1;
         mf = mf + 1.0;
     }
     w[at + n] = lower;
@@ -84,11 +80,9 @@ pub fn weights_rows(nmax: usize, root: &mut [f64], out: &mut [f64])
 {
     roots(2 * nmax, root);
     let mut at = 0;
-    let mut n = 0;
-    while n <= nmax {
+    for n in 0..nmax + 1 {
         weights_row(n, at, root, out);
         at = at + n + 1;
-        n = n + 1;
     }
 }
 
@@ -101,11 +95,9 @@ fn derive_orders(n: usize, wat: usize, at: usize, w: &[f64], src: &[f64], dst: &
     ensures { Filled (at + 1) (derived_above n (from wat w.now nan) (from at src.now nan)) n
         dst.old dst.new }
 {
-    let mut m = 1;
-    while m < n {
+    for m in 1..n {
         dst[at + m] = -0.5
             * (w[wat + m] * src[at + (m - 1)] - w[wat + (m + 1)] * src[at + (m + 1)]);
-        m = m + 1;
     }
     dst[at + n] = -0.5 * (w[wat + n] * src[at + (n - 1)] - 0.0);
 }
@@ -137,12 +129,10 @@ fn derive_rows(nmax: usize, root: &mut [f64], w: &mut [f64], src: &[f64], dst: &
 {
     roots(2 * nmax, root);
     let mut at = 0;
-    let mut n = 0;
-    while n <= nmax {
+    for n in 0..nmax + 1 {
         weights_row(n, 0, root, w);
         derive_row(n, 0, at, w, src, dst);
         at = at + n + 1;
-        n = n + 1;
     }
 }
 

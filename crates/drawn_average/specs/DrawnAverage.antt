@@ -1,10 +1,9 @@
 -- An average over a drawn basin is covered by demand 3, under its premise on sizes: what `basin_average` promises of the lists that `basin_kernel` hands
 -- back (`WithinMargin`), it promises of the kernel's definition. The premise, that the kernel's first number is at most 1 in size, is a condition: that
 -- number can be above 1, by too few nodes, by rounding for nearly the whole sphere, or by the numbers that are lent. Assumes nothing.
-use Rattle.std.specs.Prelude.{◌≡◌, List, ℕ, ◌≤◌, min, length, Float}
+use Rattle.std.specs.Prelude.{◌≡◌, List, ℕ, ◌≤◌, min, length, Float, Result}
 use Rattle.std.proofs.Common.{sym, subst, arith}
 use Rattle.std.specs.Float.{nan}
-use Rattle.refusal.specs.declared.Number.{Number}
 use Rattle.storage.specs.Fill.{fill}
 use Rattle.storage.specs.Triangle.{cells, along, table_size}
 use Rattle.coefficients.specs.declared.Head.{Head}
@@ -14,6 +13,7 @@ use Rattle.rounding.specs.Margins.{AtMostOne}
 use Rattle.slepian.specs.Average.{WithinMargin}
 use Rattle.basin_kernel.specs.Kernel.{kernel_c, kernel_s}
 use Rattle.drawn_average.specs.SameEntries.{within_same, table_cell}
+use Rattle.refusal.specs.declared.Refusal.{Refusal}
 
 module _ (field : Head) (c s : List Float) (functional : Functional) (love : List Float) (r : Float) where
   -- the factors of the degrees
@@ -28,7 +28,7 @@ module _ (field : Head) (c s : List Float) (functional : Functional) (love : Lis
     abbrev S : ℕ → ℕ → Float
     S = kernel_s L weights lats marks integralsS integralsC nodes
 
-    pub drawn_average_lem : (x : Number) → table_size L ≤ length kc → table_size L ≤ length ks
+    pub drawn_average_lem : (x : Result Float Refusal) → table_size L ≤ length kc → table_size L ≤ length ks
         → WithinMargin (cells c nan) (cells s nan) (cells (fill 0 (along C) (table_size L) kc) nan) (cells (fill 0 (along S) (table_size L) ks) nan) factor
         (min field.nmax L) x → WithinMargin (cells c nan) (cells s nan) C S factor (min field.nmax L) x
     drawn_average_lem x hc hs promise v e f one =

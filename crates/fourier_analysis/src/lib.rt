@@ -26,13 +26,11 @@ fn one_order(longitudes: usize, at: usize, k: usize, values: &[f64], trig: &[f64
     let sine = k + 1;
     let mut a = 0.0;
     let mut b = 0.0;
-    let mut j = 0;
-    while j < longitudes {
+    for j in 0..longitudes {
         let value = values[at + j];
         let pair = j + j;
         a = a + value * trig[k + pair];
         b = b + value * trig[sine + pair];
-        j = j + 1;
     }
     OrderSums { a, b }
 }
@@ -66,8 +64,7 @@ fn four_orders(
     let mut f = 0.0;
     let mut g = 0.0;
     let mut h = 0.0;
-    let mut j = 0;
-    while j < longitudes {
+    for j in 0..longitudes {
         let value = values[at + j];
         let pair = j + j;
         a = a + value * trig[k + pair];
@@ -78,7 +75,6 @@ fn four_orders(
         f = f + value * trig[kf + pair];
         g = g + value * trig[kg + pair];
         h = h + value * trig[kh + pair];
-        j = j + 1;
     }
     Eight {
         a,
@@ -111,16 +107,15 @@ fn by_fours(
     ensures fact_2 { Filled 0 (by_rows (pair_from values.now trig.now at longitudes) 2) (result * 2)
         sums.old sums.new }
 {
-    let count = nmax + 1;
-    let mut m = 0;
+    let blocks = (nmax + 1) / 4;
     let mut k = 0;
-    while count - m >= 4 {
+    for block in 0..blocks {
+        let m = 4 * block;
         let v = four_orders(longitudes, at, k, stride, values, trig);
         storage::store_eight(m + m, v, sums);
-        m = m + 4;
         k = k + 4 * stride;
     }
-    m
+    4 * blocks
 }
 
 // The sums of the orders from `first` on, one by one; those below it are there.
@@ -144,13 +139,11 @@ fn one_by_one(
     ensures { Filled 0 (by_rows (pair_from values.now trig.now at longitudes) 2) ((nmax + 1) * 2)
         sums.old sums.new }
 {
-    let mut m = first;
     let mut k = first * stride;
-    while m <= nmax {
+    for m in first..nmax + 1 {
         let v = one_order(longitudes, at, k, values, trig);
         sums[m + m] = v.a;
         sums[m + m + 1] = v.b;
-        m = m + 1;
         k = k + stride;
     }
 }

@@ -17,12 +17,10 @@ fn point(nmax: usize, k: usize, x: &[f64], y: &[f64], trig: &[f64]) -> f64
 {
     let count = nmax + 1;
     let mut sum = 0.0;
-    let mut m = 0;
-    while m < count {
+    for m in 0..count {
         let even = m + m;
         let odd = m + m + 1;
         sum = sum + (x[m] * trig[k + even] + y[m] * trig[k + odd]);
-        m = m + 1;
     }
     sum
 }
@@ -51,8 +49,7 @@ fn eight_points(nmax: usize, k: usize, stride: usize, x: &[f64], y: &[f64], trig
     let mut f = 0.0;
     let mut g = 0.0;
     let mut h = 0.0;
-    let mut m = 0;
-    while m < count {
+    for m in 0..count {
         let even = m + m;
         let odd = m + m + 1;
         let xm = x[m];
@@ -65,7 +62,6 @@ fn eight_points(nmax: usize, k: usize, stride: usize, x: &[f64], y: &[f64], trig
         f = f + (xm * trig[kf + even] + ym * trig[kf + odd]);
         g = g + (xm * trig[kg + even] + ym * trig[kg + odd]);
         h = h + (xm * trig[kh + even] + ym * trig[kh + odd]);
-        m = m + 1;
     }
     Eight {
         a,
@@ -99,15 +95,14 @@ fn points_eight(
     ensures fact_2 { Filled at (point_at nmax x.now y.now trig.now) result
         out.old out.new }
 {
-    let mut j = 0;
+    let blocks = longitudes / 8;
     let mut k = 0;
-    while longitudes - j >= 8 {
+    for block in 0..blocks {
         let v = eight_points(nmax, k, stride, x, y, trig);
-        storage::store_eight(at + j, v, out);
-        j = j + 8;
+        storage::store_eight(at + 8 * block, v, out);
         k = k + 8 * stride;
     }
-    j
+    8 * blocks
 }
 
 // The values at the longitudes from `first` on, one by one.
@@ -131,11 +126,9 @@ fn points_rest(
     ensures { Filled (at + first) (point_after first nmax x.now y.now trig.now) (longitudes - first)
         out.old out.new }
 {
-    let mut j = first;
     let mut k = first * stride;
-    while j < longitudes {
+    for j in first..longitudes {
         out[at + j] = point(nmax, k, x, y, trig);
-        j = j + 1;
         k = k + stride;
     }
 }

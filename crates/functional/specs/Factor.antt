@@ -1,16 +1,15 @@
 -- The factor of a degree for each functional, in the order of the code's operations, and what `factor` answers. Assumes nothing.
-use Rattle.std.specs.Prelude.{◌≡◌, Bool, true, false, cond, List, ℕ, ◌≤◌, ◌<◌, T, leb, ltb, length, get_or, Float}
+use Rattle.std.specs.Prelude.{◌≡◌, Bool, true, false, cond, List, ℕ, ◌≤◌, ◌<◌, T, leb, ltb, length, get_or, Float, Err, Ok, Result}
 use Rattle.std.proofs.Common.{ap, lt-ltb, le-ltb}
 use Rattle.std.specs.Float.{nan, binary64}
 use Rattle.std.specs.Float.Ieee.{fits}
 use Rattle.std.specs.Float.Ieee.Fits.{mul-fits, div-fits}
 use Rattle.number.specs.Float64.{◌⊕◌, ◌⊖◌, ◌⊗◌, ◌⊘◌, double, of_whole, one64, two64, three64}
 use Rattle.number.specs.Power.{power_of}
-use Rattle.refusal.specs.declared.Number.{Number}
-use Rattle.refusal.specs.declared.Number.TheVariants.{Value, Refused}
 use Rattle.refusal.specs.declared.Refusal.TheVariants.{Size, Love}
 use Rattle.functional.specs.declared.Functional.{Functional}
 use Rattle.functional.specs.declared.Functional.TheVariants.{Potential, GeoidHeight, GravityDisturbance, GravityAnomaly, RadialGradient, WaterHeight}
+use Rattle.refusal.specs.declared.Refusal.{Refusal}
 
 -- the mean density of the Earth, 5517, and the density of water, 1000, in kg/m³
 abbrev rho_earth : Float
@@ -60,20 +59,20 @@ lacks_love GravityAnomaly numbers n = false
 lacks_love RadialGradient numbers n = false
 
 -- what `factor` answers: SIZE for a degree above 2700, then LOVE, else the factor
-unfoldable pub factor_answer : Functional → List Float → ℕ → Float → Float → Float → Number
+unfoldable pub factor_answer : Functional → List Float → ℕ → Float → Float → Float → Result Float Refusal
 factor_answer f love n gm radius r =
-    cond (ltb 2700 n) (Refused Size) (cond (lacks_love f (length love) n) (Refused Love) (Value (factor_of f love gm radius r n)))
+    cond (ltb 2700 n) (Err Size) (cond (lacks_love f (length love) n) (Err Love) (Ok (factor_of f love gm radius r n)))
 
 -- ---- one law for each way through the checks
 module _ (f : Functional) (love : List Float) (n : ℕ) (gm radius r : Float) where
-  pub factor_size : 2700 < n → Refused Size ≡ factor_answer f love n gm radius r
+  pub factor_size : 2700 < n → Err Size ≡ factor_answer f love n gm radius r
   unfolding factor_answer
   factor_size h = simp (lt-ltb 2700 n h)
 
-  pub factor_love : n ≤ 2700 → lacks_love f (length love) n ≡ true → Refused Love ≡ factor_answer f love n gm radius r
+  pub factor_love : n ≤ 2700 → lacks_love f (length love) n ≡ true → Err Love ≡ factor_answer f love n gm radius r
   unfolding factor_answer
   factor_love h e = simp (le-ltb 2700 n h, e)
 
-  pub factor-value : {x : Float} → n ≤ 2700 → lacks_love f (length love) n ≡ false → x ≡ factor_of f love gm radius r n → Value x ≡ factor_answer f love n gm radius r
+  pub factor-value : {x : Float} → n ≤ 2700 → lacks_love f (length love) n ≡ false → x ≡ factor_of f love gm radius r n → Ok x ≡ factor_answer f love n gm radius r
   unfolding factor_answer
-  factor-value h e g = simp (le-ltb 2700 n h, e) (ap Value g)
+  factor-value h e g = simp (le-ltb 2700 n h, e) (ap Ok g)

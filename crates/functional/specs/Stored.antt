@@ -1,8 +1,7 @@
 -- Document 01: the stored factors are the numbers that `factor` answers, for every degree that a grid or an average uses. Assumes nothing.
-use Rattle.std.specs.Prelude.{◌≡◌, refl, false, List, ℕ, ◌≤◌, length, Float}
+use Rattle.std.specs.Prelude.{◌≡◌, refl, false, List, ℕ, ◌≤◌, length, Float, Ok}
 use Rattle.std.proofs.Common.{sym, arith, leb-false}
 use Rattle.std.proofs.lemmas.Bool.{lt-leb}
-use Rattle.refusal.specs.declared.Number.TheVariants.{Value}
 use Rattle.functional.specs.declared.Functional.{Functional}
 use Rattle.functional.specs.declared.Functional.TheVariants.{Potential, GeoidHeight, GravityDisturbance, GravityAnomaly, RadialGradient, WaterHeight}
 use Rattle.functional.specs.Factor.{factor_of, lacks_love, factor_answer, factor-value}
@@ -17,5 +16,5 @@ love_below GravityAnomaly numbers n N h e = refl
 love_below RadialGradient numbers n N h e = refl
 
 pub factor_answers : (f : Functional) (love : List Float) (gm radius r : Float) (N n : ℕ) → N ≤ 2700 → n ≤ N → lacks_love f (length love) N ≡ false
-    → factor_answer f love n gm radius r ≡ Value (factor_of f love gm radius r n)
+    → factor_answer f love n gm radius r ≡ Ok (factor_of f love gm radius r n)
 factor_answers f love gm radius r N n t h e = sym (factor-value f love n gm radius r (omega arith) (love_below f (length love) n N h e) refl)

@@ -5,7 +5,7 @@ ghost use Rattle.std.specs.Prelude.{◌≡◌, ℕ, ◌+◌, ◌≤◌, ◌<◌,
 ghost use Rattle.storage.specs.Filled.{Filled};
 ghost use Rattle.functional.specs.Factor.{factor_of, lacks_love, factor_answer};
 
-use refusal::{Number, Refusal};
+use refusal::Refusal;
 
 // Mean density of the Earth used by Wahr et al. (1998), kg/m³.
 pub const RHO_EARTH: f64 = 5517.0;
@@ -61,10 +61,8 @@ impl Functional {
         requires fact_2 { nmax < length out.old }
         ensures { Filled 0 (factor_of self love.now gm radius r) (nmax + 1) out.old out.new }
     {
-        let mut n = 0;
-        while n <= nmax {
+        for n in 0..nmax + 1 {
             out[n] = self.degree_factor(love, n, gm, radius, r);
-            n = n + 1;
         }
     }
 
@@ -83,15 +81,22 @@ impl Functional {
     }
 
     // The factor of degree n at radius r, for a field with the given gm and reference radius.
-    pub fn factor(self, love: &[f64], n: usize, gm: f64, radius: f64, r: f64) -> Number
+    pub fn factor(
+        self,
+        love: &[f64],
+        n: usize,
+        gm: f64,
+        radius: f64,
+        r: f64,
+    ) -> Result<f64, Refusal>
         ensures { result ≡ factor_answer self love.now n gm radius r }
     {
         if n > storage::MAX_DEGREE {
-            return Number::Refused(Refusal::Size);
+            return Err(Refusal::Size);
         }
         if self.lacks_love(love.len(), n) {
-            return Number::Refused(Refusal::Love);
+            return Err(Refusal::Love);
         }
-        Number::Value(self.degree_factor(love, n, gm, radius, r))
+        Ok(self.degree_factor(love, n, gm, radius, r))
     }
 }

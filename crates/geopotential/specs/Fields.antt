@@ -1,14 +1,10 @@
 -- The entries that turn a field into values: what they answer and leave, by the definitions of the calls themselves. Assumes nothing.
-use Rattle.std.specs.Prelude.{◌≡◌, refl, cond, List, ℕ, ◌+◌, ◌*◌, ◌≤◌, ◌<◌, min, T, ltb, length, get_or, Float}
+use Rattle.std.specs.Prelude.{◌≡◌, refl, cond, List, ℕ, ◌+◌, ◌*◌, ◌≤◌, ◌<◌, min, T, ltb, length, get_or, Float, Ok, Result, ⊤}
 use Rattle.std.proofs.Common.{sym, ◌∙◌, arith, lt-ltb, le-ltb}
 use Rattle.std.proofs.Math.Path.{subst}
 use Rattle.std.specs.Float.{nan}
 use Rattle.std.specs.Float.Ieee.Scale.{finite}
-use Rattle.refusal.specs.Numbers.{after, behind, answer_number, done_by_number, value_if, value_number, value_after, value_by_number}
-use Rattle.refusal.specs.declared.Answer.{Answer}
-use Rattle.refusal.specs.declared.Answer.TheVariants.{Done}
-use Rattle.refusal.specs.declared.Number.{Number}
-use Rattle.refusal.specs.declared.Number.TheVariants.{Value}
+use Rattle.refusal.specs.Numbers.{after, behind, done_by_number, value_if, value_after, value_by_number, result_number}
 use Rattle.storage.specs.Fill.{fill}
 use Rattle.storage.specs.Rectangle.{by_rows}
 use Rattle.storage.specs.Triangle.{cells}
@@ -19,16 +15,17 @@ use Rattle.rounding.specs.Margins.{average, AtMostOne, AverageWithin, GridWithin
 use Rattle.slepian.specs.Average.{average_check}
 use Rattle.synthesis.specs.Grid.{grid_cell, SizesAtMostOne, work_size, grid_check}
 use Rattle.geopotential.specs.Functionals.{functional_of, no_functional}
+use Rattle.refusal.specs.declared.Refusal.{Refusal}
 
 -- what `basin_average` answers
-unfoldable pub basin_answer : (gm radius : Float) (nmax : ℕ) (c s : List Float) (kmax : ℕ) (kc ks : List Float) → Functional → (love : List Float) → Float → Number
+unfoldable pub basin_answer : (gm radius : Float) (nmax : ℕ) (c s : List Float) (kmax : ℕ) (kc ks : List Float) → Functional → (love : List Float) → Float → Result Float Refusal
 basin_answer gm radius nmax c s kmax kc ks f love r =
     value_if (average_check nmax (length c) (length s) kmax (length kc) (length ks) (lacks_love f (length love) (min nmax kmax)))
     (average (cells c nan) (cells s nan) (cells kc nan) (cells ks nan) (factor_of f love gm radius r) (min nmax kmax))
 
 -- 255 for a functional above 5, before every check
 unfoldable pub basin_number : (gm radius : Float) (nmax : ℕ) (c s : List Float) (kmax : ℕ) (kc ks : List Float) → ℕ → (love : List Float) → Float → ℕ
-basin_number gm radius nmax c s kmax kc ks k love r = cond (ltb 5 k) no_functional (value_number (basin_answer gm radius nmax c s kmax kc ks (functional_of k) love r))
+basin_number gm radius nmax c s kmax kc ks k love r = cond (ltb 5 k) no_functional (result_number (basin_answer gm radius nmax c s kmax kc ks (functional_of k) love r))
 
 unfoldable pub basin_after : (gm radius : Float) (nmax : ℕ) (c s : List Float) (kmax : ℕ) (kc ks : List Float) → ℕ → (love : List Float) → Float → Float → Float
 basin_after gm radius nmax c s kmax kc ks k love r old =
@@ -52,8 +49,8 @@ module _ (gm radius : Float) (nmax : ℕ) (c s : List Float) (kmax : ℕ) (kc ks
   unfolding basin_number basin_after
   basin_unknown h = (simp (lt-ltb 5 k h), (simp (lt-ltb 5 k h), λ e. absurd (omega (arith, e))))
 
-  pub basin_known : {f : Functional} {a : Number} {x : ℕ} {now : Float} → k ≤ 5 → f ≡ functional_of k → a ≡ basin_answer gm radius nmax c s kmax kc ks f love r
-      → x ≡ value_number a → now ≡ value_after a old → ((v : Float) → a ≡ Value v → Within f v) → Promised x now
+  pub basin_known : {f : Functional} {a : Result Float Refusal} {x : ℕ} {now : Float} → k ≤ 5 → f ≡ functional_of k → a ≡ basin_answer gm radius nmax c s kmax kc ks f love r
+      → x ≡ result_number a → now ≡ value_after a old → ((v : Float) → a ≡ Ok v → Within f v) → Promised x now
   unfolding basin_number basin_after
   basin_known {f} {a} {x} {now} h p q u v w = (
     u ∙ simp (le-ltb 5 k h, ← p, ← q),
@@ -65,14 +62,14 @@ module _ (gm radius : Float) (nmax : ℕ) (c s : List Float) (kmax : ℕ) (kc ks
 
 -- ---- `grid`
 -- its checks
-unfoldable pub grid_answer : Functional → (nmax : ℕ) (c s love : List Float) (rows : ℕ) (lats : List Float) (longitudes : ℕ) (trig work out : List Float) → Answer
+unfoldable pub grid_answer : Functional → (nmax : ℕ) (c s love : List Float) (rows : ℕ) (lats : List Float) (longitudes : ℕ) (trig work out : List Float) → Result ⊤ Refusal
 grid_answer f nmax c s love rows lats longitudes trig work out =
     grid_check nmax (length c) (length s) rows (length lats) longitudes (length trig) (lacks_love f (length love) nmax) (length work) (length out)
 
 -- 255 for a functional above 5, before every check
 unfoldable pub grid_number : (k nmax : ℕ) (c s love : List Float) (rows : ℕ) (lats : List Float) (longitudes : ℕ) (trig work out : List Float) → ℕ
 grid_number k nmax c s love rows lats longitudes trig work out =
-    cond (ltb 5 k) no_functional (answer_number (grid_answer (functional_of k) nmax c s love rows lats longitudes trig work out))
+    cond (ltb 5 k) no_functional (result_number (grid_answer (functional_of k) nmax c s love rows lats longitudes trig work out))
 
 -- the output list afterwards
 unfoldable pub grid_after : (gm radius r : Float) (k nmax : ℕ) (c s love : List Float) (rows : ℕ) (lats : List Float) (longitudes : ℕ) (trig work out : List Float) → List Float
@@ -107,10 +104,10 @@ module _ (gm radius r : Float) (k nmax : ℕ) (c s love : List Float) (rows : �
   unfolding grid_number grid_after
   grid_unknown h = (simp (lt-ltb 5 k h), (simp (lt-ltb 5 k h), (refl, (refl, λ i j e. absurd (omega (arith, e))))))
 
-  pub grid_known : {f : Functional} {a : Answer} {x : ℕ} {o : List Float} (w : List Float) → k ≤ 5 → f ≡ functional_of k
-      → a ≡ grid_answer f nmax c s love rows lats longitudes trig work out → x ≡ answer_number a
+  pub grid_known : {f : Functional} {a : Result ⊤ Refusal} {x : ℕ} {o : List Float} (w : List Float) → k ≤ 5 → f ≡ functional_of k
+      → a ≡ grid_answer f nmax c s love rows lats longitudes trig work out → x ≡ result_number a
       → o ≡ after a (fill 0 (by_rows (grid_cell (factor_of f love gm radius r) lats c s trig nmax) longitudes) (rows * longitudes) out) out
-      → behind a (work_size nmax) w ≡ behind a (work_size nmax) work → length w ≡ length work → ((i j : ℕ) → a ≡ Done → GridMargin f o i j) → Kept x w o
+      → behind a (work_size nmax) w ≡ behind a (work_size nmax) work → length w ≡ length work → ((i j : ℕ) → a ≡ Ok tt → GridMargin f o i j) → Kept x w o
   unfolding grid_number grid_after grid_keeps
   grid_known {f} {a} {x} {o} w h p q u v z l m = (
     u ∙ simp (le-ltb 5 k h, ← p, ← q),

@@ -1,11 +1,11 @@
 -- The functionals by their numbers in C, and what the entry for a factor answers and leaves. Assumes nothing.
-use Rattle.std.specs.Prelude.{◌≡◌, cond, List, ℕ, ◌≤◌, ◌<◌, ltb, eqb, Float}
+use Rattle.std.specs.Prelude.{◌≡◌, cond, List, ℕ, ◌≤◌, ◌<◌, ltb, eqb, Float, Result}
 use Rattle.std.proofs.Common.{◌∙◌, lt-ltb, le-ltb, ne_eqb, arith}
-use Rattle.refusal.specs.Numbers.{value_number, value_after}
-use Rattle.refusal.specs.declared.Number.{Number}
+use Rattle.refusal.specs.Numbers.{value_after, result_number}
 use Rattle.functional.specs.Factor.{factor_answer}
 use Rattle.functional.specs.declared.Functional.{Functional}
 use Rattle.functional.specs.declared.Functional.TheVariants.{Potential, GeoidHeight, GravityDisturbance, GravityAnomaly, RadialGradient, WaterHeight}
+use Rattle.refusal.specs.declared.Refusal.{Refusal}
 
 -- 0 to 5, in the order of the enum
 unfoldable pub functional_of : ℕ → Functional
@@ -32,7 +32,7 @@ no_functional = 255
 
 -- a number above 5, before every check
 unfoldable pub factor_number : ℕ → List Float → ℕ → Float → Float → Float → ℕ
-factor_number k love n gm radius r = cond (ltb 5 k) no_functional (value_number (factor_answer (functional_of k) love n gm radius r))
+factor_number k love n gm radius r = cond (ltb 5 k) no_functional (result_number (factor_answer (functional_of k) love n gm radius r))
 
 unfoldable pub factor_after : ℕ → List Float → ℕ → Float → Float → Float → Float → Float
 factor_after k love n gm radius r old = cond (ltb 5 k) old (value_after (factor_answer (functional_of k) love n gm radius r) old)
@@ -43,7 +43,7 @@ module _ (k : ℕ) (love : List Float) (n : ℕ) (gm radius r old : Float) where
   unfolding factor_number factor_after
   factor_unknown h = (simp (lt-ltb 5 k h), simp (lt-ltb 5 k h))
 
-  pub factor_known : {f : Functional} {a : Number} {x : ℕ} {now : Float} → k ≤ 5 → f ≡ functional_of k → a ≡ factor_answer f love n gm radius r
-      → x ≡ value_number a → now ≡ value_after a old → (x ≡ factor_number k love n gm radius r) × (now ≡ factor_after k love n gm radius r old)
+  pub factor_known : {f : Functional} {a : Result Float Refusal} {x : ℕ} {now : Float} → k ≤ 5 → f ≡ functional_of k → a ≡ factor_answer f love n gm radius r
+      → x ≡ result_number a → now ≡ value_after a old → (x ≡ factor_number k love n gm radius r) × (now ≡ factor_after k love n gm radius r old)
   unfolding factor_number factor_after
   factor_known h p q u v = (u ∙ simp (le-ltb 5 k h, ← p, ← q), v ∙ simp (le-ltb 5 k h, ← p, ← q))

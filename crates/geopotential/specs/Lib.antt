@@ -8,4 +8,3 @@ pub mod Tensors
 pub mod Analyses
 pub mod Lists
 pub mod Matrices
-pub mod Basins

@@ -1,46 +1,45 @@
 -- The entries for derivatives at points: one point as a list of one, and numbers that go to a list. Assumes nothing.
-use Rattle.std.specs.Prelude.{◌≡◌, refl, Bool, true, false, not, List, [], ◌∷◌, ℕ, ◌+◌, ◌*◌, ◌≤◌, ◌<◌, ltb, eqb, Float}
+use Rattle.std.specs.Prelude.{◌≡◌, refl, Bool, true, false, not, List, [], ◌∷◌, ℕ, ◌+◌, ◌*◌, ◌≤◌, ◌<◌, ltb, eqb, Float, Err, Ok, Result, ⊤}
 use Rattle.std.proofs.Math.Path.{sym}
 use Rattle.std.proofs.Common.{ap, ◌∙◌, arith, lt-ltb, le-ltb}
-use Rattle.refusal.specs.Numbers.{refuse, refuse_yes, refuse_no}
-use Rattle.refusal.specs.declared.Answer.{Answer}
-use Rattle.refusal.specs.declared.Answer.TheVariants.{Done, Refused}
+use Rattle.refusal.specs.Numbers.{refuse, refuse_yes, refuse_no, ◌and_then◌}
 use Rattle.refusal.specs.declared.Refusal.TheVariants.{Length, Space}
-use Rattle.storage.specs.Checks.{◌and_then◌, tables_check}
+use Rattle.storage.specs.Checks.{tables_check}
 use Rattle.storage.specs.Fill.{fill, fill_same}
 use Rattle.storage.specs.Triangle.{table_size}
 use Rattle.storage.specs.Rectangle.{by_rows, by_row}
 use Rattle.legendre.specs.Directions.{row_sine, row_cosine}
 use Rattle.local.specs.declared.Partials.{Partials}
 use Rattle.local.specs.Point.{point_at, component, along_cell, point_check_of, along_check_of}
+use Rattle.refusal.specs.declared.Refusal.{Refusal}
 
 -- SPACE for so many numbers
-unfoldable pub out_check : (numbers out : ℕ) → Answer
-out_check numbers out = refuse (ltb out numbers) Space Done
+unfoldable pub out_check : (numbers out : ℕ) → Result ⊤ Refusal
+out_check numbers out = refuse (ltb out numbers) Space (Ok tt)
 
 -- the checks of one point that may use k tables of the working list, and SPACE for its numbers
-unfoldable pub numbers_check : (k numbers nmax clen slen trig work out : ℕ) → Answer
+unfoldable pub numbers_check : (k numbers nmax clen slen trig work out : ℕ) → Result ⊤ Refusal
 numbers_check k numbers nmax clen slen trig work out = point_check_of k nmax clen slen trig work and_then out_check numbers out
 
 -- four, for the first derivatives
-abbrev pub point_check : (nmax clen slen trig work out : ℕ) → Answer
+abbrev pub point_check : (nmax clen slen trig work out : ℕ) → Result ⊤ Refusal
 point_check = numbers_check 4 4
 
 -- three, for a vector
-abbrev pub three_check : ℕ → Answer
+abbrev pub three_check : ℕ → Result ⊤ Refusal
 three_check = out_check 3
 
 abbrev pub four : Float → Float → Float → Float → Partials
 four v dr dlat dlon = record { v = v; dr = dr; dlat = dlat; dlon = dlon }
 
 -- ---- one point is a list of one
-last_space : (t : Answer) (a b c : Bool) → t and_then refuse a Length (refuse b Space (refuse c Space Done))
-    ≡ (t and_then refuse a Length (refuse b Space Done)) and_then refuse c Space Done
+last_space : (t : Result ⊤ Refusal) (a b c : Bool) → t and_then refuse {A = ⊤} a Length (refuse b Space (refuse c Space (Ok tt)))
+    ≡ (t and_then refuse {A = ⊤} a Length (refuse b Space (Ok tt))) and_then refuse {A = ⊤} c Space (Ok tt)
 unfolding refuse
-last_space (Refused e) a b c = refl
-last_space Done true b c = refl
-last_space Done false true c = refl
-last_space Done false false c = refl
+last_space (Err e) a b c = refl
+last_space (Ok _) true b c = refl
+last_space (Ok _) false true c = refl
+last_space (Ok _) false false c = refl
 
 pub one_check : (k numbers nmax clen slen trig work out : ℕ)
     → along_check_of k numbers nmax clen slen 1 1 2 trig work out ≡ numbers_check k numbers nmax clen slen trig work out
@@ -65,10 +64,10 @@ module _ (gm radius : Float) (N : ℕ) (c s trig : List Float) (r t u : Float) w
 
 -- ---- so many numbers
 module _ (numbers out : ℕ) where
-  pub out_short : out < numbers → Refused Space ≡ out_check numbers out
+  pub out_short : out < numbers → Err Space ≡ out_check numbers out
   unfolding out_check
-  out_short h = sym (refuse_yes Space Done (lt-ltb out numbers h))
+  out_short h = sym (refuse_yes Space (Ok tt) (lt-ltb out numbers h))
 
-  pub out_done : numbers ≤ out → Done ≡ out_check numbers out
+  pub out_done : numbers ≤ out → Ok tt ≡ out_check numbers out
   unfolding out_check
-  out_done h = sym (refuse_no Space Done (le-ltb out numbers h))
+  out_done h = sym (refuse_no Space (Ok tt) (le-ltb out numbers h))

@@ -1,16 +1,13 @@
 -- Demand 2 at the entries for C: what `model_write` leaves, `model_read` reads back, and what `model_read` hands back of a file, `model_write` makes that
 -- file of again; whatever stood in the lists before and however long they are. Assumes nothing.
-use Rattle.std.specs.Prelude.{◌≡◌, refl, List, [], ◌∷◌, ℕ, ◌+◌, ◌*◌, ◌≤◌, ◌<◌, length, get_or, take, ℤ}
+use Rattle.std.specs.Prelude.{◌≡◌, refl, List, [], ◌∷◌, ℕ, ◌+◌, ◌*◌, ◌≤◌, ◌<◌, length, get_or, take, ℤ, None, Ok, Option, Some}
 use Rattle.std.proofs.Common.{sym, ap, ap₂, ◌∙◌, arith, get_or-take, le-ltb}
-use Rattle.refusal.specs.Numbers.{after, answer_number, refuse}
-use Rattle.refusal.specs.declared.Answer.TheVariants.{Done}
+use Rattle.refusal.specs.Numbers.{after, refuse, result_number}
 use Rattle.storage.specs.Answers.{size_is}
 use Rattle.storage.specs.Store.{store}
 use Rattle.storage.specs.Triangle.{table_size}
 use Rattle.days.specs.Days.{days_of, days_back}
 use Rattle.coefficients.specs.Model.{tide_number, tide_small, tide_back, tide_forth, dated_number, date_of}
-use Rattle.coefficients.specs.declared.Date.{Date}
-use Rattle.coefficients.specs.declared.Date.TheVariants.{None, Days}
 use Rattle.coefficients.specs.declared.TideSystem.{TideSystem}
 use Rattle.model_file.specs.declared.FileHead.{FileHead}
 use Rattle.model_file.specs.LittleEndian.{Below}
@@ -22,11 +19,11 @@ use Rattle.model_file.specs.HandedBack.{stored_front}
 use Rattle.geopotential.specs.Files.{date_bits, head_words, words_of, model_read, head_of_words, model_write_number, model_write_after}
 
 -- ---- a head's words say the head: the day count goes by its 32 bits
-date_of_words : (d : Date) → DateFits d → date_of (dated_number d) (days_of (date_bits d)) ≡ d
+date_of_words : (d : Option ℤ) → DateFits d → date_of (dated_number d) (days_of (date_bits d)) ≡ d
 date_of_words None f = refl
-date_of_words (Days z) f = ap Days (days_back z f)
+date_of_words (Some z) f = ap Some (days_back z f)
 
-with_parts : FileHead → TideSystem → Date → FileHead
+with_parts : FileHead → TideSystem → Option ℤ → FileHead
 with_parts h t d = record { gm = h.gm; radius = h.radius; tide = t; date = d; nmax = h.nmax }
 
 pub words_back : (h : FileHead) → DateFits h.date
@@ -41,7 +38,7 @@ words_forth gm radius tide dated days nmax b =
 
 -- ---- what the two entries promise: a number, and the lists afterwards
 pub record Read (b c₀ s₀ w₀ : List ℕ) (x : ℕ) (c₁ s₁ w₁ : List ℕ) : Type 0 where
-  pub number : x ≡ answer_number (model_read (parse b) (length c₀) (length s₀) (length w₀))
+  pub number : x ≡ result_number (model_read (parse b) (length c₀) (length s₀) (length w₀))
   pub of_c : c₁ ≡ after (model_read (parse b) (length c₀) (length s₀) (length w₀)) (store 0 (c_of (parse b)) c₀) c₀
   pub of_s : s₁ ≡ after (model_read (parse b) (length c₀) (length s₀) (length w₀)) (store 0 (s_of (parse b)) s₀) s₀
   pub of_head : w₁ ≡ after (model_read (parse b) (length c₀) (length s₀) (length w₀)) (store 0 (words_of (parse b)) w₀) w₀
@@ -64,13 +61,13 @@ unfolding model_read refuse
 reads b h c s c₀ s₀ w₀ p t rc rs rw₀ {x} {c₁} {s₁} {w₁} r =
     let lc = t.c_long in
     let ls = t.s_long in
-    let done : model_read (parse b) (length c₀) (length s₀) (length w₀) ≡ Done =
+    let done : model_read (parse b) (length c₀) (length s₀) (length w₀) ≡ Ok tt =
     rw p (simp (le-ltb (length w₀) 6 rw₀, le-ltb (length c₀) (length c) (omega arith), le-ltb (length s₀) (length s) (omega arith))) in
     let ec : c₁ ≡ store 0 c c₀ = r.of_c ∙ rw done (rw p refl) in
     let es : s₁ ≡ store 0 s s₀ = r.of_s ∙ rw done (rw p refl) in
     let ew : w₁ ≡ store 0 (head_words h) w₀ = r.of_head ∙ rw done (rw p refl) in
     record {
-      done = r.number ∙ ap answer_number done;
+      done = r.number ∙ ap result_number done;
       of_c = ap (take (table_size h.nmax)) ec ∙ stored_front c c₀ (table_size h.nmax) lc rc;
       of_s = ap (take (table_size h.nmax)) es ∙ stored_front s s₀ (table_size h.nmax) ls rs;
       of_head = ap (take 6) ew ∙ stored_front (head_words h) w₀ 6 refl rw₀;

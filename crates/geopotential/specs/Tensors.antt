@@ -1,19 +1,19 @@
 -- The entries for second derivatives at points, and for the tensor. Assumes nothing.
-use Rattle.std.specs.Prelude.{◌≡◌, List, [], ◌∷◌, ℕ, ◌*◌, Float}
-use Rattle.refusal.specs.declared.Answer.{Answer}
+use Rattle.std.specs.Prelude.{◌≡◌, List, [], ◌∷◌, ℕ, ◌*◌, Float, Result, ⊤}
 use Rattle.storage.specs.Fill.{fill}
 use Rattle.storage.specs.Rectangle.{by_rows}
 use Rattle.legendre.specs.Directions.{row_sine, row_cosine}
 use Rattle.local.specs.declared.SecondPartials.{SecondPartials}
 use Rattle.local.specs.Second.{second_at, second_component, second_cell}
 use Rattle.geopotential.specs.Points.{out_check, numbers_check, four, one_row}
+use Rattle.refusal.specs.declared.Refusal.{Refusal}
 
 -- the checks of one point, and SPACE for its ten numbers
-abbrev pub ten_check : (nmax clen slen trig work out : ℕ) → Answer
+abbrev pub ten_check : (nmax clen slen trig work out : ℕ) → Result ⊤ Refusal
 ten_check = numbers_check 5 10
 
 -- SPACE for the nine of a tensor
-abbrev pub nine_check : ℕ → Answer
+abbrev pub nine_check : ℕ → Result ⊤ Refusal
 nine_check = out_check 9
 
 abbrev pub ten : (v dr dlat dlon drr dlatlat dlonlon drlat drlon dlatlon : Float) → SecondPartials

@@ -37,7 +37,7 @@ pub fn geopotential_analysis(
         return 255;
     }
     let f = crate::functionals::functional_of(functional);
-    coefficients::model_number(analysis::analysis(
+    refusal::result_number(analysis::analysis(
         f, love, r, nmax, gm, radius, values, weights, latitudes, trig, work, c, s,
     ))
 }

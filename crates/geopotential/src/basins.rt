@@ -1,30 +1,13 @@
 // Basins drawn as polygons: the intervals and the breaks of an outline, and the kernel of a basin.
 ghost use Rattle.std.specs.Prelude.{◌≡◌, ◌*◌, ◌/◌, length};
 ghost use Rattle.std.specs.Float.{nan};
-ghost use Rattle.refusal.specs.Numbers.{after, behind, answer_number};
+ghost use Rattle.refusal.specs.Numbers.{after, behind, result_number};
 ghost use Rattle.storage.specs.Elements.{from};
 ghost use Rattle.storage.specs.Fill.{fill};
 ghost use Rattle.storage.specs.Triangle.{table_size, along};
 ghost use Rattle.polygon.specs.Outline.{crossings, intervals_of, breaks_of};
-ghost use Rattle.polygon.specs.Checks.{outline_check, count_number};
+ghost use Rattle.polygon.specs.Checks.{outline_check};
 ghost use Rattle.basin_kernel.specs.Kernel.{kernel_c, kernel_s, kernel_check};
-ghost use Rattle.geopotential.specs.Basins.{count_after};
-
-use polygon::Count;
-
-// How many there are, to the number that was lent for it.
-fn hand_on_count(x: Count, count: &mut usize) -> u32
-    ensures value { result ≡ count_number x }
-    ensures count_after { count.new ≡ count_after x count.old }
-{
-    match x {
-        Count::Of(n) => {
-            *count = n;
-            0
-        }
-        Count::Refused(e) => refusal::refusal_number(e),
-    }
-}
 
 pub fn geopotential_polygon_intervals(
     vertices: usize,
@@ -34,7 +17,7 @@ pub fn geopotential_polygon_intervals(
     out: &mut [f64],
     count: &mut usize,
 ) -> u32
-    ensures value { result ≡ answer_number
+    ensures value { result ≡ result_number
         (outline_check vertices (length outline.now) (length work.old) (length out.old)
         (length (intervals_of vertices outline.now theta))) }
     ensures out_after { out.new ≡ after
@@ -56,7 +39,7 @@ pub fn geopotential_polygon_intervals(
         (length (intervals_of vertices outline.now theta)))
         (length (crossings vertices outline.now theta) / 2) count.old }
 {
-    hand_on_count(
+    refusal::hand_on(
         polygon::intervals(vertices, outline, theta, work, out),
         count,
     )
@@ -69,7 +52,7 @@ pub fn geopotential_polygon_breaks(
     out: &mut [f64],
     count: &mut usize,
 ) -> u32
-    ensures value { result ≡ answer_number
+    ensures value { result ≡ result_number
         (outline_check vertices (length outline.now) (length work.old) (length out.old)
         (length (breaks_of vertices outline.now))) }
     ensures out_after_1 { out.new ≡ after
@@ -83,7 +66,7 @@ pub fn geopotential_polygon_breaks(
         (length (breaks_of vertices outline.now)))
         (length (breaks_of vertices outline.now)) count.old }
 {
-    hand_on_count(polygon::breaks(vertices, outline, work, out), count)
+    refusal::hand_on(polygon::breaks(vertices, outline, work, out), count)
 }
 
 pub fn geopotential_basin_kernel(
@@ -98,7 +81,7 @@ pub fn geopotential_basin_kernel(
     kc: &mut [f64],
     ks: &mut [f64],
 ) -> u32
-    ensures value { result ≡ answer_number
+    ensures value { result ≡ result_number
         (kernel_check lmax nodes (length weights.now) (length latitudes.now) (length marks.now)
         (length s.now) (length c.now) (length work.old) (length kc.old) (length ks.old)) }
     ensures kc_after { kc.new ≡ after
@@ -121,7 +104,7 @@ pub fn geopotential_basin_kernel(
         (3 * table_size lmax) work.old }
     ensures work_unchanged_2 { length work.new ≡ length work.old }
 {
-    coefficients::model_number(basin_kernel::basin_kernel(
+    refusal::result_number(basin_kernel::basin_kernel(
         lmax, nodes, weights, latitudes, marks, s, c, work, kc, ks,
     ))
 }

@@ -10,7 +10,7 @@ ghost use Rattle.synthesis.specs.Grid.{SizesAtMostOne};
 ghost use Rattle.geopotential.specs.Functionals.{functional_of};
 ghost use Rattle.geopotential.specs.Fields.{basin_number, basin_after, grid_number, grid_after, grid_keeps};
 
-use coefficients::{Date, Head, TideSystem};
+use coefficients::{Head, TideSystem};
 
 // A functional above 5 is refused by 255, before every check.
 pub fn geopotential_grid(
@@ -54,10 +54,10 @@ pub fn geopotential_grid(
         gm,
         radius,
         tide_system: TideSystem::Unknown,
-        date: Date::None,
+        date: None,
         nmax,
     };
-    refusal::answer_number(synthesis::grid(
+    refusal::result_number(synthesis::grid(
         head, c, s, f, love, r, rows, latitudes, longitudes, trig, work, out,
     ))
 }
@@ -94,14 +94,14 @@ pub fn geopotential_basin_average(
         gm,
         radius,
         tide_system: TideSystem::Unknown,
-        date: Date::None,
+        date: None,
         nmax,
     };
     let kernel = Head {
         gm,
         radius,
         tide_system: TideSystem::Unknown,
-        date: Date::None,
+        date: None,
         nmax: kmax,
     };
     refusal::hand_on(

@@ -1,22 +1,22 @@
 // The calls of the crate model_file.
 ghost use Rattle.std.specs.Prelude.{◌≡◌, ◌≤◌, length};
-ghost use Rattle.refusal.specs.Numbers.{after, answer_number};
+ghost use Rattle.refusal.specs.Numbers.{after, result_number};
 ghost use Rattle.storage.specs.Store.{store};
 ghost use Rattle.model_file.specs.Format.{parse};
 ghost use Rattle.model_file.specs.Answers.{c_of, s_of};
 ghost use Rattle.geopotential.specs.Files.{date_bits, head_words, words_of, or_space, model_read, model_write_number, model_write_after};
 
-use coefficients::Date;
-use model_file::{FileHead, Reading};
-use refusal::Answer;
+use coefficients::TideSystem;
+use model_file::FileHead;
+use refusal::Refusal;
 
 // The 32 bits of a date's count; 0 where none is stated.
-fn date_bits(date: Date) -> u64
+fn date_bits(date: Option<i32>) -> u64
     ensures { result ≡ date_bits date }
 {
     match date {
-        Date::None => 0,
-        Date::Days(days) => days::days_pattern(days) as u64,
+        None => 0,
+        Some(days) => days::days_pattern(days) as u64,
     }
 }
 
@@ -27,28 +27,28 @@ fn store_head(h: FileHead, out: &mut [u64])
 {
     let system = h.tide;
     let date = h.date;
-    let tide = coefficients::tide_number(system) as u64;
+    let tide = u64::from(u32::from(system));
     out[0] = h.gm;
     out[1] = h.radius;
     out[2] = tide;
     out[3] = h.nmax as u64;
-    out[4] = coefficients::dated_number(date) as u64;
+    out[4] = u64::from(date.is_some());
     out[5] = date_bits(date);
 }
 
 // The number of a refusal, and SPACE for a file that is accepted.
-fn or_space(a: Answer) -> u32
+fn or_space(a: Result<(), Refusal>) -> u32
     ensures { result ≡ or_space a }
 {
     match a {
-        Answer::Done => 3,
-        Answer::Refused(e) => refusal::refusal_number(e),
+        Ok(()) => 3,
+        Err(e) => u32::from(e),
     }
 }
 
 // Reads a model file: T patterns at the front of c and of s, and six words at the front of head.
 pub fn geopotential_model_read(bytes: &[u8], c: &mut [u64], s: &mut [u64], head: &mut [u64]) -> u32
-    ensures value { result ≡ answer_number (model_read (parse bytes.now) (length c.old) (length s.old) (length head.old)) }
+    ensures value { result ≡ result_number (model_read (parse bytes.now) (length c.old) (length s.old) (length head.old)) }
     ensures c_after { c.new ≡ after (model_read (parse bytes.now) (length c.old) (length s.old) (length head.old)) (store 0 (c_of (parse bytes.now)) c.old) c.old }
     ensures s_after { s.new ≡ after (model_read (parse bytes.now) (length c.old) (length s.old) (length head.old)) (store 0 (s_of (parse bytes.now)) s.old) s.old }
     ensures head_after { head.new ≡ after (model_read (parse bytes.now) (length c.old) (length s.old) (length head.old)) (store 0 (words_of (parse bytes.now)) head.old) head.old }
@@ -57,8 +57,8 @@ pub fn geopotential_model_read(bytes: &[u8], c: &mut [u64], s: &mut [u64], head:
         return or_space(model_file::verdict(bytes));
     }
     match model_file::read(bytes, c, s) {
-        Reading::Refused(e) => refusal::refusal_number(e),
-        Reading::Model(h) => {
+        Err(e) => u32::from(e),
+        Ok(h) => {
             store_head(h, head);
             0
         }
@@ -83,13 +83,13 @@ pub fn geopotential_model_write(
     if tide > 3 {
         return 9;
     }
-    let system = coefficients::tide_of(tide);
+    let system = TideSystem::from(tide);
     let head = FileHead {
         gm,
         radius,
         tide: system,
-        date: coefficients::date_of(dated, days),
+        date: (dated != 0).then_some(days),
         nmax,
     };
-    refusal::answer_number(model_file::write(head, c, s, out))
+    refusal::result_number(model_file::write(head, c, s, out))
 }

@@ -1,29 +1,34 @@
 // The calls of the crate linalg: eigenvalues and eigenvectors of symmetric matrices.
 ghost use Rattle.std.specs.Prelude.{◌≡◌, ◌+◌, ◌*◌, ◌≤◌, length};
 ghost use Rattle.std.specs.Float.{nan};
-ghost use Rattle.refusal.specs.Numbers.{after, behind, answer_number};
+ghost use Rattle.refusal.specs.Numbers.{after, behind, result_number};
 ghost use Rattle.storage.specs.Elements.{from};
 ghost use Rattle.storage.specs.Fill.{fill};
 ghost use Rattle.linalg.specs.Eigen.{householder_values, householder_vectors, householder_convergence};
 ghost use Rattle.linalg.specs.Eigen.{eigen_values, eigen_vectors, eigen_convergence, eigen_limit, eigen_check};
-ghost use Rattle.linalg.specs.Solution.{settled_number, solution_number};
+ghost use Rattle.linalg.specs.Solution.{settled_number};
 ghost use Rattle.geopotential.specs.Matrices.{settled_after, count_after};
 
-use linalg::Solution;
+use linalg::Convergence;
+use refusal::Refusal;
 
 // Hands on through `settled` and `count` how a solver ended, which a refusal leaves alone; answers 0 or the number of the refusal.
-pub fn hand_on_convergence(a: Solution, settled: &mut u32, count: &mut usize) -> u32
-    ensures value { result ≡ solution_number a }
+pub fn hand_on_convergence(
+    a: Result<Convergence, Refusal>,
+    settled: &mut u32,
+    count: &mut usize,
+) -> u32
+    ensures value { result ≡ result_number a }
     ensures settled_after { settled.new ≡ settled_after a settled.old }
     ensures count_after { count.new ≡ count_after a count.old }
 {
     match a {
-        Solution::Solved(c) => {
-            *settled = linalg::settled_number(c.settled);
+        Ok(c) => {
+            *settled = u32::from(c.settled);
             *count = c.count;
             0
         }
-        Solution::Refused(e) => refusal::refusal_number(e),
+        Err(e) => u32::from(e),
     }
 }
 
@@ -36,7 +41,7 @@ pub fn geopotential_symmetric_eigen(
     settled: &mut u32,
     count: &mut usize,
 ) -> u32
-    ensures value { result ≡ answer_number (eigen_check n (length a.now) (length work.old) (length values.old)
+    ensures value { result ≡ result_number (eigen_check n (length a.now) (length work.old) (length values.old)
         (length vectors.old)) }
     ensures values_after { values.new ≡ after
         (eigen_check n (length a.now) (length work.old) (length values.old) (length vectors.old))
@@ -72,7 +77,7 @@ pub fn geopotential_householder_ql(
     settled: &mut u32,
     count: &mut usize,
 ) -> u32
-    ensures value { result ≡ answer_number (eigen_check n (length a.now) (length work.old) (length values.old)
+    ensures value { result ≡ result_number (eigen_check n (length a.now) (length work.old) (length values.old)
         (length vectors.old)) }
     ensures values_after { values.new ≡ after
         (eigen_check n (length a.now) (length work.old) (length values.old) (length vectors.old))

@@ -1,25 +1,25 @@
 // The calls of the crate coefficients. Where a call takes no gm and radius, its answer does not depend on them.
 ghost use Rattle.std.specs.Prelude.{◌≡◌, ◌+◌, min, length, set};
 ghost use Rattle.std.specs.Float.{nan};
-ghost use Rattle.refusal.specs.Numbers.{after, answer_number, value_number, value_after};
+ghost use Rattle.refusal.specs.Numbers.{after, value_after, result_number};
 ghost use Rattle.number.specs.Float64.{◌⊘◌};
 ghost use Rattle.storage.specs.Elements.{zero_at, from};
 ghost use Rattle.storage.specs.Fill.{fill};
 ghost use Rattle.storage.specs.Triangle.{idx, table_size, along};
-ghost use Rattle.coefficients.specs.Model.{model_number};
 ghost use Rattle.storage.specs.Checks.{room_check, entry_answer};
 ghost use Rattle.coefficients.specs.Checks.{set_check, variances_check};
 ghost use Rattle.coefficients.specs.Values.{rescaled_entry, variance_of};
 ghost use Rattle.geopotential.specs.Models.{degree_after, cut_check, same_check, amplitudes_number, amplitudes_after};
 
-use coefficients::{Date, Head, Model, TideSystem};
+use coefficients::{Head, TideSystem};
+use refusal::Refusal;
 
 pub fn geopotential_zeros(gm: f64, radius: f64, nmax: usize, c: &mut [f64], s: &mut [f64]) -> u32
-    ensures value { result ≡ answer_number (room_check nmax (length c.old) (length s.old)) }
+    ensures value { result ≡ result_number (room_check nmax (length c.old) (length s.old)) }
     ensures c_after { c.new ≡ after (room_check nmax (length c.old) (length s.old)) (fill 0 zero_at (table_size nmax) c.old) c.old }
     ensures s_after { s.new ≡ after (room_check nmax (length c.old) (length s.old)) (fill 0 zero_at (table_size nmax) s.old) s.old }
 {
-    coefficients::model_number(Head::zeros(gm, radius, nmax, c, s))
+    refusal::result_number(Head::zeros(gm, radius, nmax, c, s))
 }
 
 pub fn geopotential_coefficient_c(
@@ -29,14 +29,14 @@ pub fn geopotential_coefficient_c(
     m: usize,
     value: &mut f64,
 ) -> u32
-    ensures value { result ≡ value_number (entry_answer nmax c.now n m) }
+    ensures value { result ≡ result_number (entry_answer nmax c.now n m) }
     ensures value_after { value.new ≡ value_after (entry_answer nmax c.now n m) value.old }
 {
     let head = Head {
         gm: 1.0,
         radius: 1.0,
         tide_system: TideSystem::Unknown,
-        date: Date::None,
+        date: None,
         nmax,
     };
     refusal::hand_on(head.c(c, n, m), value)
@@ -49,14 +49,14 @@ pub fn geopotential_coefficient_s(
     m: usize,
     value: &mut f64,
 ) -> u32
-    ensures value { result ≡ value_number (entry_answer nmax s.now n m) }
+    ensures value { result ≡ result_number (entry_answer nmax s.now n m) }
     ensures value_after { value.new ≡ value_after (entry_answer nmax s.now n m) value.old }
 {
     let head = Head {
         gm: 1.0,
         radius: 1.0,
         tide_system: TideSystem::Unknown,
-        date: Date::None,
+        date: None,
         nmax,
     };
     refusal::hand_on(head.s(s, n, m), value)
@@ -71,7 +71,7 @@ pub fn geopotential_set(
     cnm: f64,
     snm: f64,
 ) -> u32
-    ensures value { result ≡ answer_number (set_check nmax (length c.old) (length s.old) n m) }
+    ensures value { result ≡ result_number (set_check nmax (length c.old) (length s.old) n m) }
     ensures c_after { c.new ≡ after (set_check nmax (length c.old) (length s.old) n m) (set c.old (idx n m) cnm) c.old }
     ensures s_after { s.new ≡ after (set_check nmax (length c.old) (length s.old) n m) (set s.old (idx n m) snm) s.old }
 {
@@ -79,23 +79,23 @@ pub fn geopotential_set(
         gm: 1.0,
         radius: 1.0,
         tide_system: TideSystem::Unknown,
-        date: Date::None,
+        date: None,
         nmax,
     };
-    refusal::answer_number(head.set(c, s, n, m, cnm, snm))
+    refusal::result_number(head.set(c, s, n, m, cnm, snm))
 }
 
 // Hands the degree of a field on through `degree`, which a refusal leaves alone; answers 0 or the number of the refusal.
-fn hand_on_degree(a: Model, degree: &mut usize) -> u32
-    ensures value { result ≡ model_number a }
+fn hand_on_degree(a: Result<Head, Refusal>, degree: &mut usize) -> u32
+    ensures value { result ≡ result_number a }
     ensures degree_after { degree.new ≡ degree_after a degree.old }
 {
     match a {
-        Model::Made(h) => {
+        Ok(h) => {
             *degree = h.nmax;
             0
         }
-        Model::Refused(e) => refusal::refusal_number(e),
+        Err(e) => u32::from(e),
     }
 }
 
@@ -109,7 +109,7 @@ pub fn geopotential_truncated(
     outs: &mut [f64],
     degree: &mut usize,
 ) -> u32
-    ensures value { result ≡ answer_number (cut_check nmax c.now s.now cut outc.old outs.old) }
+    ensures value { result ≡ result_number (cut_check nmax c.now s.now cut outc.old outs.old) }
     ensures outc_after { outc.new ≡ after (cut_check nmax c.now s.now cut outc.old outs.old) (fill 0 (from 0 c.now nan) (table_size (min cut nmax)) outc.old) outc.old }
     ensures outs_after { outs.new ≡ after (cut_check nmax c.now s.now cut outc.old outs.old) (fill 0 (from 0 s.now nan) (table_size (min cut nmax)) outs.old) outs.old }
     ensures degree_after { degree.new ≡ after (cut_check nmax c.now s.now cut outc.old outs.old) (min cut nmax) degree.old }
@@ -118,7 +118,7 @@ pub fn geopotential_truncated(
         gm: 1.0,
         radius: 1.0,
         tide_system: TideSystem::Unknown,
-        date: Date::None,
+        date: None,
         nmax,
     };
     hand_on_degree(head.truncated(c, s, cut, outc, outs), degree)
@@ -135,7 +135,7 @@ pub fn geopotential_rescaled(
     outc: &mut [f64],
     outs: &mut [f64],
 ) -> u32
-    ensures value { result ≡ answer_number (same_check nmax c.now s.now outc.old outs.old) }
+    ensures value { result ≡ result_number (same_check nmax c.now s.now outc.old outs.old) }
     ensures outc_after { outc.new ≡ after (same_check nmax c.now s.now outc.old outs.old) (fill 0 (along (rescaled_entry (gm ⊘ newgm) (radius ⊘ newradius) c.now)) (table_size nmax) outc.old) outc.old }
     ensures outs_after { outs.new ≡ after (same_check nmax c.now s.now outc.old outs.old) (fill 0 (along (rescaled_entry (gm ⊘ newgm) (radius ⊘ newradius) s.now)) (table_size nmax) outs.old) outs.old }
 {
@@ -143,24 +143,24 @@ pub fn geopotential_rescaled(
         gm,
         radius,
         tide_system: TideSystem::Unknown,
-        date: Date::None,
+        date: None,
         nmax,
     };
-    coefficients::model_number(head.rescaled(c, s, newgm, newradius, outc, outs))
+    refusal::result_number(head.rescaled(c, s, newgm, newradius, outc, outs))
 }
 
 pub fn geopotential_degree_variances(nmax: usize, c: &[f64], s: &[f64], out: &mut [f64]) -> u32
-    ensures value { result ≡ answer_number (variances_check nmax (length c.now) (length s.now) (length out.old)) }
+    ensures value { result ≡ result_number (variances_check nmax (length c.now) (length s.now) (length out.old)) }
     ensures out_after { out.new ≡ after (variances_check nmax (length c.now) (length s.now) (length out.old)) (fill 0 (variance_of c.now s.now) (nmax + 1) out.old) out.old }
 {
     let head = Head {
         gm: 1.0,
         radius: 1.0,
         tide_system: TideSystem::Unknown,
-        date: Date::None,
+        date: None,
         nmax,
     };
-    refusal::answer_number(head.degree_variances(c, s, out))
+    refusal::result_number(head.degree_variances(c, s, out))
 }
 
 // A functional above 5 is refused by 255, before every check.
@@ -185,8 +185,8 @@ pub fn geopotential_degree_amplitudes(
         gm,
         radius,
         tide_system: TideSystem::Unknown,
-        date: Date::None,
+        date: None,
         nmax,
     };
-    refusal::answer_number(head.degree_amplitudes(c, s, f, love, out))
+    refusal::result_number(head.degree_amplitudes(c, s, f, love, out))
 }

@@ -1,7 +1,7 @@
 // The calls of the crate partials: the derivatives of a field at points, and local accelerations.
 ghost use Rattle.std.specs.Prelude.{◌≡◌, ℕ, ◌*◌, ◌≤◌, length};
 ghost use Rattle.std.specs.Float.{nan};
-ghost use Rattle.refusal.specs.Numbers.{after, behind, answer_number};
+ghost use Rattle.refusal.specs.Numbers.{after, behind, result_number};
 ghost use Rattle.storage.specs.Elements.{from};
 ghost use Rattle.storage.specs.Fill.{fill};
 ghost use Rattle.storage.specs.Filled.{Filled};
@@ -10,7 +10,7 @@ ghost use Rattle.local.specs.Point.{point_at, component, along_cell, along_check
 ghost use Rattle.local.specs.Local.{acceleration_of, gravity_of};
 ghost use Rattle.geopotential.specs.Points.{point_check, three_check, four};
 
-use coefficients::{Date, Head, TideSystem};
+use coefficients::{Head, TideSystem};
 use legendre::Latitude;
 use local::Partials;
 
@@ -28,7 +28,7 @@ pub fn geopotential_partials(
     work: &mut [f64],
     out: &mut [f64],
 ) -> u32
-    ensures value { result ≡ answer_number (point_check nmax (length c.now) (length s.now) (length trig.now)
+    ensures value { result ≡ result_number (point_check nmax (length c.now) (length s.now) (length trig.now)
         (length work.old) (length out.old)) }
     ensures out_after { out.new ≡ after
         (point_check nmax (length c.now) (length s.now) (length trig.now) (length work.old)
@@ -49,12 +49,12 @@ pub fn geopotential_partials(
         gm,
         radius,
         tide_system: TideSystem::Unknown,
-        date: Date::None,
+        date: None,
         nmax,
     };
     let radii = [r];
     let latitudes = [t, u];
-    refusal::answer_number(partials::partials_along(
+    refusal::result_number(partials::partials_along(
         head, c, s, 1, &radii, &latitudes, trig, work, out,
     ))
 }
@@ -72,7 +72,7 @@ pub fn geopotential_partials_along(
     work: &mut [f64],
     out: &mut [f64],
 ) -> u32
-    ensures value { result ≡ answer_number (along_check nmax (length c.now) (length s.now) points (length radii.now)
+    ensures value { result ≡ result_number (along_check nmax (length c.now) (length s.now) points (length radii.now)
         (length latitudes.now) (length trig.now) (length work.old) (length out.old)) }
     ensures out_after { out.new ≡ after
         (along_check nmax (length c.now) (length s.now) points (length radii.now)
@@ -97,10 +97,10 @@ pub fn geopotential_partials_along(
         gm,
         radius,
         tide_system: TideSystem::Unknown,
-        date: Date::None,
+        date: None,
         nmax,
     };
-    refusal::answer_number(partials::partials_along(
+    refusal::result_number(partials::partials_along(
         head, c, s, points, radii, latitudes, trig, work, out,
     ))
 }
@@ -110,10 +110,8 @@ fn store_three(three: &[f64; 3], out: &mut [f64])
     requires { 3 ≤ length out.old }
     ensures { Filled 0 (from 0 three.now nan) 3 out.old out.new }
 {
-    let mut i = 0;
-    while i < 3 {
+    for i in 0..3 {
         out[i] = three[i];
-        i = i + 1;
     }
 }
 
@@ -128,7 +126,7 @@ pub fn geopotential_acceleration_neu(
     u: f64,
     out: &mut [f64],
 ) -> u32
-    ensures value { result ≡ answer_number (three_check (length out.old)) }
+    ensures value { result ≡ result_number (three_check (length out.old)) }
     ensures out_after { out.new ≡ after (three_check (length out.old))
         (fill 0 (from 0 (acceleration_of (four v dr dlat dlon) r u) nan) 3 out.old) out.old }
 {
@@ -152,7 +150,7 @@ pub fn geopotential_gravity_neu(
     omega: f64,
     out: &mut [f64],
 ) -> u32
-    ensures value { result ≡ answer_number (three_check (length out.old)) }
+    ensures value { result ≡ result_number (three_check (length out.old)) }
     ensures out_after { out.new ≡ after (three_check (length out.old))
         (fill 0 (from 0 (gravity_of (four v dr dlat dlon) r t u omega) nan) 3 out.old) out.old }
 {

@@ -1,7 +1,7 @@
 // The Slepian functions of a polar cap.
 ghost use Rattle.std.specs.Prelude.{◌≡◌, ◌+◌, ◌*◌, length};
 ghost use Rattle.std.specs.Float.{nan};
-ghost use Rattle.refusal.specs.Numbers.{after, behind, answer_number};
+ghost use Rattle.refusal.specs.Numbers.{after, behind, result_number};
 ghost use Rattle.storage.specs.Elements.{from};
 ghost use Rattle.storage.specs.Fill.{fill};
 ghost use Rattle.storage.specs.Rectangle.{by_rows};
@@ -19,7 +19,7 @@ pub fn geopotential_polar_cap(
     vectors: &mut [f64],
     settled: &mut [f64],
 ) -> u32
-    ensures value { result ≡ answer_number (cap_check lmax (length weights.now) (length latitudes.now)
+    ensures value { result ≡ result_number (cap_check lmax (length weights.now) (length latitudes.now)
         (length work.old) (length orders.old) (length concentrations.old) (length vectors.old)
         (length settled.old)) }
     ensures orders_after { orders.new ≡ after
@@ -58,7 +58,7 @@ pub fn geopotential_polar_cap(
         (cap_work lmax) work.old }
     ensures work_len_unchanged { length work.new ≡ length work.old }
 {
-    refusal::answer_number(polar_cap::polar_cap(
+    refusal::result_number(polar_cap::polar_cap(
         lmax,
         cosine,
         weights,

@@ -1,13 +1,13 @@
 // The calls of the crate second_partials: the first and second derivatives of a field at points, and the tensor of gravity gradients.
 ghost use Rattle.std.specs.Prelude.{◌≡◌, ℕ, ◌*◌, ◌≤◌, length};
-ghost use Rattle.refusal.specs.Numbers.{after, behind, answer_number};
+ghost use Rattle.refusal.specs.Numbers.{after, behind, result_number};
 ghost use Rattle.storage.specs.Fill.{fill};
 ghost use Rattle.storage.specs.Filled.{Filled};
 ghost use Rattle.storage.specs.Rectangle.{by_rows};
 ghost use Rattle.local.specs.Second.{second_at, second_component, second_cell, second_along_check, second_size, tensor_of, tensor_cell};
 ghost use Rattle.geopotential.specs.Tensors.{ten_check, nine_check, ten};
 
-use coefficients::{Date, Head, TideSystem};
+use coefficients::{Head, TideSystem};
 use legendre::Latitude;
 use local::{Partials, SecondPartials};
 
@@ -25,7 +25,7 @@ pub fn geopotential_second_partials(
     work: &mut [f64],
     out: &mut [f64],
 ) -> u32
-    ensures value { result ≡ answer_number (ten_check nmax (length c.now) (length s.now) (length trig.now)
+    ensures value { result ≡ result_number (ten_check nmax (length c.now) (length s.now) (length trig.now)
         (length work.old) (length out.old)) }
     ensures out_after { out.new ≡ after
         (ten_check nmax (length c.now) (length s.now) (length trig.now) (length work.old)
@@ -46,12 +46,12 @@ pub fn geopotential_second_partials(
         gm,
         radius,
         tide_system: TideSystem::Unknown,
-        date: Date::None,
+        date: None,
         nmax,
     };
     let radii = [r];
     let latitudes = [t, u];
-    refusal::answer_number(second_partials::second_partials_along(
+    refusal::result_number(second_partials::second_partials_along(
         head, c, s, 1, &radii, &latitudes, trig, work, out,
     ))
 }
@@ -69,7 +69,7 @@ pub fn geopotential_second_partials_along(
     work: &mut [f64],
     out: &mut [f64],
 ) -> u32
-    ensures value { result ≡ answer_number (second_along_check nmax (length c.now) (length s.now) points
+    ensures value { result ≡ result_number (second_along_check nmax (length c.now) (length s.now) points
         (length radii.now) (length latitudes.now) (length trig.now) (length work.old)
         (length out.old)) }
     ensures out_after { out.new ≡ after
@@ -95,10 +95,10 @@ pub fn geopotential_second_partials_along(
         gm,
         radius,
         tide_system: TideSystem::Unknown,
-        date: Date::None,
+        date: None,
         nmax,
     };
-    refusal::answer_number(second_partials::second_partials_along(
+    refusal::result_number(second_partials::second_partials_along(
         head, c, s, points, radii, latitudes, trig, work, out,
     ))
 }
@@ -108,10 +108,8 @@ fn store_nine(tensor: [[f64; 3]; 3], out: &mut [f64])
     requires { 9 ≤ length out.old }
     ensures { Filled 0 (by_rows (tensor_cell tensor) 3) 9 out.old out.new }
 {
-    let mut k = 0;
-    while k < 9 {
+    for k in 0..9 {
         out[k] = tensor[k / 3][k % 3];
-        k = k + 1;
     }
 }
 
@@ -132,7 +130,7 @@ pub fn geopotential_tensor_neu(
     u: f64,
     out: &mut [f64],
 ) -> u32
-    ensures value { result ≡ answer_number (nine_check (length out.old)) }
+    ensures value { result ≡ result_number (nine_check (length out.old)) }
     ensures out_after { out.new ≡ after (nine_check (length out.old))
         (fill 0 (by_rows (tensor_cell (tensor_of (ten v dr dlat dlon drr dlatlat dlonlon drlat drlon dlatlon) r t u)) 3) 9 out.old)
         out.old }

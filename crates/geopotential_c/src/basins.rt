@@ -1,14 +1,13 @@
 // Basins drawn as polygons: the intervals and the breaks of an outline, and the kernel of a basin.
 ghost use Rattle.std.specs.Prelude.{◌≡◌, ◌*◌, ◌/◌, length};
 ghost use Rattle.std.specs.Float.{nan};
-ghost use Rattle.refusal.specs.Numbers.{after, behind, answer_number};
+ghost use Rattle.refusal.specs.Numbers.{after, behind, result_number, value_after};
 ghost use Rattle.storage.specs.Elements.{from};
 ghost use Rattle.storage.specs.Fill.{fill};
 ghost use Rattle.storage.specs.Triangle.{table_size, along};
 ghost use Rattle.polygon.specs.Outline.{crossings, intervals_of, breaks_of};
-ghost use Rattle.polygon.specs.Checks.{outline_check, count_number};
+ghost use Rattle.polygon.specs.Checks.{outline_check};
 ghost use Rattle.basin_kernel.specs.Kernel.{kernel_c, kernel_s, kernel_check};
-ghost use Rattle.geopotential.specs.Basins.{count_after};
 
 #[unsafe(no_mangle)]
 pub extern "C" fn geopotential_polygon_intervals(
@@ -19,7 +18,7 @@ pub extern "C" fn geopotential_polygon_intervals(
     out: &mut [f64],
     count: &mut usize,
 ) -> u32
-    ensures value { result ≡ answer_number
+    ensures value { result ≡ result_number
         (outline_check vertices (length outline.now) (length work.old) (length out.old)
         (length (intervals_of vertices outline.now theta))) }
     ensures out_after { out.new ≡ after
@@ -52,7 +51,7 @@ pub extern "C" fn geopotential_polygon_breaks(
     out: &mut [f64],
     count: &mut usize,
 ) -> u32
-    ensures value { result ≡ answer_number
+    ensures value { result ≡ result_number
         (outline_check vertices (length outline.now) (length work.old) (length out.old)
         (length (breaks_of vertices outline.now))) }
     ensures out_after_1 { out.new ≡ after
@@ -82,7 +81,7 @@ pub extern "C" fn geopotential_basin_kernel(
     kc: &mut [f64],
     ks: &mut [f64],
 ) -> u32
-    ensures value { result ≡ answer_number
+    ensures value { result ≡ result_number
         (kernel_check lmax nodes (length weights.now) (length latitudes.now) (length marks.now)
         (length s.now) (length c.now) (length work.old) (length kc.old) (length ks.old)) }
     ensures kc_after { kc.new ≡ after

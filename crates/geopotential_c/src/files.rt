@@ -1,6 +1,6 @@
 // The calls of the crate model_file.
 ghost use Rattle.std.specs.Prelude.{◌≡◌, ◌≤◌, length};
-ghost use Rattle.refusal.specs.Numbers.{after, answer_number};
+ghost use Rattle.refusal.specs.Numbers.{after, result_number};
 ghost use Rattle.storage.specs.Store.{store};
 ghost use Rattle.model_file.specs.Format.{parse};
 ghost use Rattle.model_file.specs.Answers.{c_of, s_of};
@@ -14,7 +14,7 @@ pub extern "C" fn geopotential_model_read(
     s: &mut [u64],
     head: &mut [u64],
 ) -> u32
-    ensures value { result ≡ answer_number (model_read (parse bytes.now) (length c.old) (length s.old) (length head.old)) }
+    ensures value { result ≡ result_number (model_read (parse bytes.now) (length c.old) (length s.old) (length head.old)) }
     ensures c_after { c.new ≡ after (model_read (parse bytes.now) (length c.old) (length s.old) (length head.old)) (store 0 (c_of (parse bytes.now)) c.old) c.old }
     ensures s_after { s.new ≡ after (model_read (parse bytes.now) (length c.old) (length s.old) (length head.old)) (store 0 (s_of (parse bytes.now)) s.old) s.old }
     ensures head_after { head.new ≡ after (model_read (parse bytes.now) (length c.old) (length s.old) (length head.old)) (store 0 (words_of (parse bytes.now)) head.old) head.old }

@@ -1,6 +1,6 @@
 // The concentration matrix of a region of any shape, and its Slepian functions.
 ghost use Rattle.std.specs.Prelude.{◌≡◌, true, false, ◌*◌, ◌≤◌, length};
-ghost use Rattle.refusal.specs.Numbers.{after, behind, answer_number};
+ghost use Rattle.refusal.specs.Numbers.{after, behind, result_number};
 ghost use Rattle.storage.specs.Fill.{fill};
 ghost use Rattle.storage.specs.Rectangle.{by_rows};
 ghost use Rattle.storage.specs.Triangle.{table_size};
@@ -23,7 +23,7 @@ pub extern "C" fn geopotential_concentration_matrix(
     work: &mut [f64],
     matrix: &mut [f64],
 ) -> u32
-    ensures value { result ≡ answer_number (matrix_check lmax nodes (length weights.now) (length latitudes.now)
+    ensures value { result ≡ result_number (matrix_check lmax nodes (length weights.now) (length latitudes.now)
         (length marks.now) (length s.now) (length c.now) (length work.old) (length matrix.old)) }
     ensures matrix_after { matrix.new ≡ after
         (matrix_check lmax nodes (length weights.now) (length latitudes.now)
@@ -58,7 +58,7 @@ pub extern "C" fn geopotential_region(
     settled: &mut u32,
     count: &mut usize,
 ) -> u32
-    ensures value { result ≡ answer_number (region_check lmax nodes (length weights.now) (length latitudes.now)
+    ensures value { result ≡ result_number (region_check lmax nodes (length weights.now) (length latitudes.now)
         (length marks.now) (length s.now) (length c.now) (length work.old)
         (length concentrations.old) (length cs.old) (length ss.old)) }
     ensures concentrations_after { concentrations.new ≡ after

@@ -1,18 +1,17 @@
 // How long the lists of each entry must be: the lengths go to the front of `lengths`, in the order of the entry's list parameters. An entry that is lent
 // lists of just these lengths is not refused for them.
-ghost use Rattle.std.specs.Prelude.{◌≡◌, length};
-ghost use Rattle.refusal.specs.Numbers.{answer_number};
-ghost use Rattle.refusal.specs.declared.Answer.TheVariants.{Done};
+ghost use Rattle.std.specs.Prelude.{◌≡◌, length, Ok};
 ghost use Rattle.model_file.specs.Format.{head_of};
 ghost use Rattle.lengths.specs.Told.{size_check, lengths_check, lengths_after};
-ghost use Rattle.lengths.specs.Lengths.{degree_size, two_degrees, grid_sizes, along_sizes, read_sizes, tables_lengths, factor_lengths, truncated_lengths};
+ghost use Rattle.lengths.specs.Lengths.{degree_size, two_degrees, grid_sizes, along_sizes, tables_lengths, factor_lengths, truncated_lengths};
 ghost use Rattle.lengths.specs.Lengths.{variances_lengths, amplitudes_lengths, read_lengths, write_lengths, gauss_lengths, grid_lengths, average_lengths};
 ghost use Rattle.lengths.specs.Lengths.{partials_lengths, along_lengths, three_lengths, second_lengths, second_along_lengths, nine_lengths, analysis_lengths, eigen_lengths};
 ghost use Rattle.lengths.specs.Lengths.{cap_lengths, region_sizes, matrix_lengths, region_lengths, intervals_lengths, breaks_lengths, kernel_sizes, kernel_lengths};
+ghost use Rattle.refusal.specs.Numbers.{outcome, result_number};
 
 #[unsafe(no_mangle)]
 pub extern "C" fn geopotential_factor_lengths(n: usize, lengths: &mut [usize]) -> u32
-    ensures value { result ≡ answer_number (lengths_check (degree_size n) (factor_lengths n) (length lengths.old)) }
+    ensures value { result ≡ result_number (lengths_check (degree_size n) (factor_lengths n) (length lengths.old)) }
     ensures lengths_after { lengths.new ≡ lengths_after (degree_size n) (factor_lengths n) lengths.old }
 {
     geopotential::lists::geopotential_factor_lengths(n, lengths)
@@ -20,7 +19,7 @@ pub extern "C" fn geopotential_factor_lengths(n: usize, lengths: &mut [usize]) -
 
 #[unsafe(no_mangle)]
 pub extern "C" fn geopotential_zeros_lengths(nmax: usize, lengths: &mut [usize]) -> u32
-    ensures value { result ≡ answer_number (lengths_check (degree_size nmax) (tables_lengths 2 nmax) (length lengths.old)) }
+    ensures value { result ≡ result_number (lengths_check (degree_size nmax) (tables_lengths 2 nmax) (length lengths.old)) }
     ensures lengths_after { lengths.new ≡ lengths_after (degree_size nmax) (tables_lengths 2 nmax) lengths.old }
 {
     geopotential::lists::geopotential_zeros_lengths(nmax, lengths)
@@ -28,7 +27,7 @@ pub extern "C" fn geopotential_zeros_lengths(nmax: usize, lengths: &mut [usize])
 
 #[unsafe(no_mangle)]
 pub extern "C" fn geopotential_coefficient_c_lengths(nmax: usize, lengths: &mut [usize]) -> u32
-    ensures value { result ≡ answer_number (lengths_check (degree_size nmax) (tables_lengths 1 nmax) (length lengths.old)) }
+    ensures value { result ≡ result_number (lengths_check (degree_size nmax) (tables_lengths 1 nmax) (length lengths.old)) }
     ensures lengths_after { lengths.new ≡ lengths_after (degree_size nmax) (tables_lengths 1 nmax) lengths.old }
 {
     geopotential::lists::geopotential_coefficient_c_lengths(nmax, lengths)
@@ -36,7 +35,7 @@ pub extern "C" fn geopotential_coefficient_c_lengths(nmax: usize, lengths: &mut 
 
 #[unsafe(no_mangle)]
 pub extern "C" fn geopotential_coefficient_s_lengths(nmax: usize, lengths: &mut [usize]) -> u32
-    ensures value { result ≡ answer_number (lengths_check (degree_size nmax) (tables_lengths 1 nmax) (length lengths.old)) }
+    ensures value { result ≡ result_number (lengths_check (degree_size nmax) (tables_lengths 1 nmax) (length lengths.old)) }
     ensures lengths_after { lengths.new ≡ lengths_after (degree_size nmax) (tables_lengths 1 nmax) lengths.old }
 {
     geopotential::lists::geopotential_coefficient_s_lengths(nmax, lengths)
@@ -44,7 +43,7 @@ pub extern "C" fn geopotential_coefficient_s_lengths(nmax: usize, lengths: &mut 
 
 #[unsafe(no_mangle)]
 pub extern "C" fn geopotential_set_lengths(nmax: usize, lengths: &mut [usize]) -> u32
-    ensures value { result ≡ answer_number (lengths_check (degree_size nmax) (tables_lengths 2 nmax) (length lengths.old)) }
+    ensures value { result ≡ result_number (lengths_check (degree_size nmax) (tables_lengths 2 nmax) (length lengths.old)) }
     ensures lengths_after { lengths.new ≡ lengths_after (degree_size nmax) (tables_lengths 2 nmax) lengths.old }
 {
     geopotential::lists::geopotential_set_lengths(nmax, lengths)
@@ -56,7 +55,7 @@ pub extern "C" fn geopotential_truncated_lengths(
     cut: usize,
     lengths: &mut [usize],
 ) -> u32
-    ensures value { result ≡ answer_number (lengths_check (degree_size nmax) (truncated_lengths nmax cut) (length lengths.old)) }
+    ensures value { result ≡ result_number (lengths_check (degree_size nmax) (truncated_lengths nmax cut) (length lengths.old)) }
     ensures lengths_after { lengths.new ≡ lengths_after (degree_size nmax) (truncated_lengths nmax cut) lengths.old }
 {
     geopotential::lists::geopotential_truncated_lengths(nmax, cut, lengths)
@@ -64,7 +63,7 @@ pub extern "C" fn geopotential_truncated_lengths(
 
 #[unsafe(no_mangle)]
 pub extern "C" fn geopotential_rescaled_lengths(nmax: usize, lengths: &mut [usize]) -> u32
-    ensures value { result ≡ answer_number (lengths_check (degree_size nmax) (tables_lengths 4 nmax) (length lengths.old)) }
+    ensures value { result ≡ result_number (lengths_check (degree_size nmax) (tables_lengths 4 nmax) (length lengths.old)) }
     ensures lengths_after { lengths.new ≡ lengths_after (degree_size nmax) (tables_lengths 4 nmax) lengths.old }
 {
     geopotential::lists::geopotential_rescaled_lengths(nmax, lengths)
@@ -72,7 +71,7 @@ pub extern "C" fn geopotential_rescaled_lengths(nmax: usize, lengths: &mut [usiz
 
 #[unsafe(no_mangle)]
 pub extern "C" fn geopotential_degree_variances_lengths(nmax: usize, lengths: &mut [usize]) -> u32
-    ensures value { result ≡ answer_number (lengths_check (degree_size nmax) (variances_lengths nmax) (length lengths.old)) }
+    ensures value { result ≡ result_number (lengths_check (degree_size nmax) (variances_lengths nmax) (length lengths.old)) }
     ensures lengths_after { lengths.new ≡ lengths_after (degree_size nmax) (variances_lengths nmax) lengths.old }
 {
     geopotential::lists::geopotential_degree_variances_lengths(nmax, lengths)
@@ -80,7 +79,7 @@ pub extern "C" fn geopotential_degree_variances_lengths(nmax: usize, lengths: &m
 
 #[unsafe(no_mangle)]
 pub extern "C" fn geopotential_degree_amplitudes_lengths(nmax: usize, lengths: &mut [usize]) -> u32
-    ensures value { result ≡ answer_number (lengths_check (degree_size nmax) (amplitudes_lengths nmax) (length lengths.old)) }
+    ensures value { result ≡ result_number (lengths_check (degree_size nmax) (amplitudes_lengths nmax) (length lengths.old)) }
     ensures lengths_after { lengths.new ≡ lengths_after (degree_size nmax) (amplitudes_lengths nmax) lengths.old }
 {
     geopotential::lists::geopotential_degree_amplitudes_lengths(nmax, lengths)
@@ -89,9 +88,9 @@ pub extern "C" fn geopotential_degree_amplitudes_lengths(nmax: usize, lengths: &
 // By the head of a file: its first 20 bytes are enough, 24 with a date.
 #[unsafe(no_mangle)]
 pub extern "C" fn geopotential_model_read_lengths(bytes: &[u8], lengths: &mut [usize]) -> u32
-    ensures value { result ≡ answer_number (lengths_check (read_sizes (head_of bytes.now)) (read_lengths (head_of bytes.now))
+    ensures value { result ≡ result_number (lengths_check (outcome (head_of bytes.now)) (read_lengths (head_of bytes.now))
         (length lengths.old)) }
-    ensures lengths_after { lengths.new ≡ lengths_after (read_sizes (head_of bytes.now)) (read_lengths (head_of bytes.now))
+    ensures lengths_after { lengths.new ≡ lengths_after (outcome (head_of bytes.now)) (read_lengths (head_of bytes.now))
         lengths.old }
 {
     geopotential::lists::geopotential_model_read_lengths(bytes, lengths)
@@ -103,7 +102,7 @@ pub extern "C" fn geopotential_model_write_lengths(
     dated: u32,
     lengths: &mut [usize],
 ) -> u32
-    ensures value { result ≡ answer_number (lengths_check (degree_size nmax) (write_lengths nmax dated) (length lengths.old)) }
+    ensures value { result ≡ result_number (lengths_check (degree_size nmax) (write_lengths nmax dated) (length lengths.old)) }
     ensures lengths_after { lengths.new ≡ lengths_after (degree_size nmax) (write_lengths nmax dated) lengths.old }
 {
     geopotential::lists::geopotential_model_write_lengths(nmax, dated, lengths)
@@ -111,7 +110,7 @@ pub extern "C" fn geopotential_model_write_lengths(
 
 #[unsafe(no_mangle)]
 pub extern "C" fn geopotential_legendre_new_lengths(nmax: usize, lengths: &mut [usize]) -> u32
-    ensures value { result ≡ answer_number (lengths_check (degree_size nmax) (tables_lengths 2 nmax) (length lengths.old)) }
+    ensures value { result ≡ result_number (lengths_check (degree_size nmax) (tables_lengths 2 nmax) (length lengths.old)) }
     ensures lengths_after { lengths.new ≡ lengths_after (degree_size nmax) (tables_lengths 2 nmax) lengths.old }
 {
     geopotential::lists::geopotential_legendre_new_lengths(nmax, lengths)
@@ -119,7 +118,7 @@ pub extern "C" fn geopotential_legendre_new_lengths(nmax: usize, lengths: &mut [
 
 #[unsafe(no_mangle)]
 pub extern "C" fn geopotential_legendre_grow_lengths(nmax: usize, lengths: &mut [usize]) -> u32
-    ensures value { result ≡ answer_number (lengths_check (degree_size nmax) (tables_lengths 2 nmax) (length lengths.old)) }
+    ensures value { result ≡ result_number (lengths_check (degree_size nmax) (tables_lengths 2 nmax) (length lengths.old)) }
     ensures lengths_after { lengths.new ≡ lengths_after (degree_size nmax) (tables_lengths 2 nmax) lengths.old }
 {
     geopotential::lists::geopotential_legendre_grow_lengths(nmax, lengths)
@@ -127,7 +126,7 @@ pub extern "C" fn geopotential_legendre_grow_lengths(nmax: usize, lengths: &mut 
 
 #[unsafe(no_mangle)]
 pub extern "C" fn geopotential_legendre_compute_lengths(nmax: usize, lengths: &mut [usize]) -> u32
-    ensures value { result ≡ answer_number (lengths_check (degree_size nmax) (tables_lengths 3 nmax) (length lengths.old)) }
+    ensures value { result ≡ result_number (lengths_check (degree_size nmax) (tables_lengths 3 nmax) (length lengths.old)) }
     ensures lengths_after { lengths.new ≡ lengths_after (degree_size nmax) (tables_lengths 3 nmax) lengths.old }
 {
     geopotential::lists::geopotential_legendre_compute_lengths(nmax, lengths)
@@ -138,7 +137,7 @@ pub extern "C" fn geopotential_legendre_compute_with_derivative_lengths(
     nmax: usize,
     lengths: &mut [usize],
 ) -> u32
-    ensures value { result ≡ answer_number (lengths_check (degree_size nmax) (tables_lengths 4 nmax) (length lengths.old)) }
+    ensures value { result ≡ result_number (lengths_check (degree_size nmax) (tables_lengths 4 nmax) (length lengths.old)) }
     ensures lengths_after { lengths.new ≡ lengths_after (degree_size nmax) (tables_lengths 4 nmax) lengths.old }
 {
     geopotential::lists::geopotential_legendre_compute_with_derivative_lengths(nmax, lengths)
@@ -146,7 +145,7 @@ pub extern "C" fn geopotential_legendre_compute_with_derivative_lengths(
 
 #[unsafe(no_mangle)]
 pub extern "C" fn geopotential_legendre_mirror_lengths(nmax: usize, lengths: &mut [usize]) -> u32
-    ensures value { result ≡ answer_number (lengths_check (degree_size nmax) (tables_lengths 1 nmax) (length lengths.old)) }
+    ensures value { result ≡ result_number (lengths_check (degree_size nmax) (tables_lengths 1 nmax) (length lengths.old)) }
     ensures lengths_after { lengths.new ≡ lengths_after (degree_size nmax) (tables_lengths 1 nmax) lengths.old }
 {
     geopotential::lists::geopotential_legendre_mirror_lengths(nmax, lengths)
@@ -157,7 +156,7 @@ pub extern "C" fn geopotential_legendre_mirror_derivative_lengths(
     nmax: usize,
     lengths: &mut [usize],
 ) -> u32
-    ensures value { result ≡ answer_number (lengths_check (degree_size nmax) (tables_lengths 1 nmax) (length lengths.old)) }
+    ensures value { result ≡ result_number (lengths_check (degree_size nmax) (tables_lengths 1 nmax) (length lengths.old)) }
     ensures lengths_after { lengths.new ≡ lengths_after (degree_size nmax) (tables_lengths 1 nmax) lengths.old }
 {
     geopotential::lists::geopotential_legendre_mirror_derivative_lengths(nmax, lengths)
@@ -165,7 +164,7 @@ pub extern "C" fn geopotential_legendre_mirror_derivative_lengths(
 
 #[unsafe(no_mangle)]
 pub extern "C" fn geopotential_legendre_entry_lengths(nmax: usize, lengths: &mut [usize]) -> u32
-    ensures value { result ≡ answer_number (lengths_check (degree_size nmax) (tables_lengths 1 nmax) (length lengths.old)) }
+    ensures value { result ≡ result_number (lengths_check (degree_size nmax) (tables_lengths 1 nmax) (length lengths.old)) }
     ensures lengths_after { lengths.new ≡ lengths_after (degree_size nmax) (tables_lengths 1 nmax) lengths.old }
 {
     geopotential::lists::geopotential_legendre_entry_lengths(nmax, lengths)
@@ -173,7 +172,7 @@ pub extern "C" fn geopotential_legendre_entry_lengths(nmax: usize, lengths: &mut
 
 #[unsafe(no_mangle)]
 pub extern "C" fn geopotential_gauss_legendre_lengths(n: usize, lengths: &mut [usize]) -> u32
-    ensures value { result ≡ answer_number (lengths_check (size_check 2701 n) (gauss_lengths n) (length lengths.old)) }
+    ensures value { result ≡ result_number (lengths_check (size_check 2701 n) (gauss_lengths n) (length lengths.old)) }
     ensures lengths_after { lengths.new ≡ lengths_after (size_check 2701 n) (gauss_lengths n) lengths.old }
 {
     geopotential::lists::geopotential_gauss_legendre_lengths(n, lengths)
@@ -186,7 +185,7 @@ pub extern "C" fn geopotential_grid_lengths(
     longitudes: usize,
     lengths: &mut [usize],
 ) -> u32
-    ensures value { result ≡ answer_number (lengths_check (grid_sizes nmax rows longitudes) (grid_lengths nmax rows longitudes) (length lengths.old)) }
+    ensures value { result ≡ result_number (lengths_check (grid_sizes nmax rows longitudes) (grid_lengths nmax rows longitudes) (length lengths.old)) }
     ensures lengths_after { lengths.new ≡ lengths_after (grid_sizes nmax rows longitudes) (grid_lengths nmax rows longitudes) lengths.old }
 {
     geopotential::lists::geopotential_grid_lengths(nmax, rows, longitudes, lengths)
@@ -198,7 +197,7 @@ pub extern "C" fn geopotential_basin_average_lengths(
     kmax: usize,
     lengths: &mut [usize],
 ) -> u32
-    ensures value { result ≡ answer_number (lengths_check (two_degrees nmax kmax) (average_lengths nmax kmax) (length lengths.old)) }
+    ensures value { result ≡ result_number (lengths_check (two_degrees nmax kmax) (average_lengths nmax kmax) (length lengths.old)) }
     ensures lengths_after { lengths.new ≡ lengths_after (two_degrees nmax kmax) (average_lengths nmax kmax) lengths.old }
 {
     geopotential::lists::geopotential_basin_average_lengths(nmax, kmax, lengths)
@@ -206,7 +205,7 @@ pub extern "C" fn geopotential_basin_average_lengths(
 
 #[unsafe(no_mangle)]
 pub extern "C" fn geopotential_partials_lengths(nmax: usize, lengths: &mut [usize]) -> u32
-    ensures value { result ≡ answer_number (lengths_check (degree_size nmax) (partials_lengths nmax) (length lengths.old)) }
+    ensures value { result ≡ result_number (lengths_check (degree_size nmax) (partials_lengths nmax) (length lengths.old)) }
     ensures lengths_after { lengths.new ≡ lengths_after (degree_size nmax) (partials_lengths nmax) lengths.old }
 {
     geopotential::lists::geopotential_partials_lengths(nmax, lengths)
@@ -218,7 +217,7 @@ pub extern "C" fn geopotential_partials_along_lengths(
     points: usize,
     lengths: &mut [usize],
 ) -> u32
-    ensures value { result ≡ answer_number (lengths_check (along_sizes nmax points) (along_lengths nmax points) (length lengths.old)) }
+    ensures value { result ≡ result_number (lengths_check (along_sizes nmax points) (along_lengths nmax points) (length lengths.old)) }
     ensures lengths_after { lengths.new ≡ lengths_after (along_sizes nmax points) (along_lengths nmax points) lengths.old }
 {
     geopotential::lists::geopotential_partials_along_lengths(nmax, points, lengths)
@@ -226,23 +225,23 @@ pub extern "C" fn geopotential_partials_along_lengths(
 
 #[unsafe(no_mangle)]
 pub extern "C" fn geopotential_acceleration_neu_lengths(lengths: &mut [usize]) -> u32
-    ensures value { result ≡ answer_number (lengths_check Done three_lengths (length lengths.old)) }
-    ensures lengths_after { lengths.new ≡ lengths_after Done three_lengths lengths.old }
+    ensures value { result ≡ result_number (lengths_check (Ok tt) three_lengths (length lengths.old)) }
+    ensures lengths_after { lengths.new ≡ lengths_after (Ok tt) three_lengths lengths.old }
 {
     geopotential::lists::geopotential_acceleration_neu_lengths(lengths)
 }
 
 #[unsafe(no_mangle)]
 pub extern "C" fn geopotential_gravity_neu_lengths(lengths: &mut [usize]) -> u32
-    ensures value { result ≡ answer_number (lengths_check Done three_lengths (length lengths.old)) }
-    ensures lengths_after { lengths.new ≡ lengths_after Done three_lengths lengths.old }
+    ensures value { result ≡ result_number (lengths_check (Ok tt) three_lengths (length lengths.old)) }
+    ensures lengths_after { lengths.new ≡ lengths_after (Ok tt) three_lengths lengths.old }
 {
     geopotential::lists::geopotential_gravity_neu_lengths(lengths)
 }
 
 #[unsafe(no_mangle)]
 pub extern "C" fn geopotential_second_partials_lengths(nmax: usize, lengths: &mut [usize]) -> u32
-    ensures value { result ≡ answer_number (lengths_check (degree_size nmax) (second_lengths nmax) (length lengths.old)) }
+    ensures value { result ≡ result_number (lengths_check (degree_size nmax) (second_lengths nmax) (length lengths.old)) }
     ensures lengths_after { lengths.new ≡ lengths_after (degree_size nmax) (second_lengths nmax) lengths.old }
 {
     geopotential::lists::geopotential_second_partials_lengths(nmax, lengths)
@@ -254,7 +253,7 @@ pub extern "C" fn geopotential_second_partials_along_lengths(
     points: usize,
     lengths: &mut [usize],
 ) -> u32
-    ensures value { result ≡ answer_number (lengths_check (along_sizes nmax points) (second_along_lengths nmax points) (length lengths.old)) }
+    ensures value { result ≡ result_number (lengths_check (along_sizes nmax points) (second_along_lengths nmax points) (length lengths.old)) }
     ensures lengths_after { lengths.new ≡ lengths_after (along_sizes nmax points) (second_along_lengths nmax points) lengths.old }
 {
     geopotential::lists::geopotential_second_partials_along_lengths(nmax, points, lengths)
@@ -262,15 +261,15 @@ pub extern "C" fn geopotential_second_partials_along_lengths(
 
 #[unsafe(no_mangle)]
 pub extern "C" fn geopotential_tensor_neu_lengths(lengths: &mut [usize]) -> u32
-    ensures value { result ≡ answer_number (lengths_check Done nine_lengths (length lengths.old)) }
-    ensures lengths_after { lengths.new ≡ lengths_after Done nine_lengths lengths.old }
+    ensures value { result ≡ result_number (lengths_check (Ok tt) nine_lengths (length lengths.old)) }
+    ensures lengths_after { lengths.new ≡ lengths_after (Ok tt) nine_lengths lengths.old }
 {
     geopotential::lists::geopotential_tensor_neu_lengths(lengths)
 }
 
 #[unsafe(no_mangle)]
 pub extern "C" fn geopotential_analysis_lengths(nmax: usize, lengths: &mut [usize]) -> u32
-    ensures value { result ≡ answer_number (lengths_check (degree_size nmax) (analysis_lengths nmax) (length lengths.old)) }
+    ensures value { result ≡ result_number (lengths_check (degree_size nmax) (analysis_lengths nmax) (length lengths.old)) }
     ensures lengths_after { lengths.new ≡ lengths_after (degree_size nmax) (analysis_lengths nmax) lengths.old }
 {
     geopotential::lists::geopotential_analysis_lengths(nmax, lengths)
@@ -278,7 +277,7 @@ pub extern "C" fn geopotential_analysis_lengths(nmax: usize, lengths: &mut [usiz
 
 #[unsafe(no_mangle)]
 pub extern "C" fn geopotential_symmetric_eigen_lengths(n: usize, lengths: &mut [usize]) -> u32
-    ensures value { result ≡ answer_number (lengths_check (size_check 512 n) (eigen_lengths n) (length lengths.old)) }
+    ensures value { result ≡ result_number (lengths_check (size_check 512 n) (eigen_lengths n) (length lengths.old)) }
     ensures lengths_after { lengths.new ≡ lengths_after (size_check 512 n) (eigen_lengths n) lengths.old }
 {
     geopotential::lists::geopotential_symmetric_eigen_lengths(n, lengths)
@@ -286,7 +285,7 @@ pub extern "C" fn geopotential_symmetric_eigen_lengths(n: usize, lengths: &mut [
 
 #[unsafe(no_mangle)]
 pub extern "C" fn geopotential_householder_ql_lengths(n: usize, lengths: &mut [usize]) -> u32
-    ensures value { result ≡ answer_number (lengths_check (size_check 512 n) (eigen_lengths n) (length lengths.old)) }
+    ensures value { result ≡ result_number (lengths_check (size_check 512 n) (eigen_lengths n) (length lengths.old)) }
     ensures lengths_after { lengths.new ≡ lengths_after (size_check 512 n) (eigen_lengths n) lengths.old }
 {
     geopotential::lists::geopotential_householder_ql_lengths(n, lengths)
@@ -294,7 +293,7 @@ pub extern "C" fn geopotential_householder_ql_lengths(n: usize, lengths: &mut [u
 
 #[unsafe(no_mangle)]
 pub extern "C" fn geopotential_polar_cap_lengths(lmax: usize, lengths: &mut [usize]) -> u32
-    ensures value { result ≡ answer_number (lengths_check (size_check 180 lmax) (cap_lengths lmax) (length lengths.old)) }
+    ensures value { result ≡ result_number (lengths_check (size_check 180 lmax) (cap_lengths lmax) (length lengths.old)) }
     ensures lengths_after { lengths.new ≡ lengths_after (size_check 180 lmax) (cap_lengths lmax) lengths.old }
 {
     geopotential::lists::geopotential_polar_cap_lengths(lmax, lengths)
@@ -306,7 +305,7 @@ pub extern "C" fn geopotential_concentration_matrix_lengths(
     nodes: usize,
     lengths: &mut [usize],
 ) -> u32
-    ensures value { result ≡ answer_number (lengths_check (region_sizes lmax nodes) (matrix_lengths lmax nodes) (length lengths.old)) }
+    ensures value { result ≡ result_number (lengths_check (region_sizes lmax nodes) (matrix_lengths lmax nodes) (length lengths.old)) }
     ensures lengths_after { lengths.new ≡ lengths_after (region_sizes lmax nodes) (matrix_lengths lmax nodes) lengths.old }
 {
     geopotential::lists::geopotential_concentration_matrix_lengths(lmax, nodes, lengths)
@@ -318,7 +317,7 @@ pub extern "C" fn geopotential_region_lengths(
     nodes: usize,
     lengths: &mut [usize],
 ) -> u32
-    ensures value { result ≡ answer_number (lengths_check (region_sizes lmax nodes) (region_lengths lmax nodes) (length lengths.old)) }
+    ensures value { result ≡ result_number (lengths_check (region_sizes lmax nodes) (region_lengths lmax nodes) (length lengths.old)) }
     ensures lengths_after { lengths.new ≡ lengths_after (region_sizes lmax nodes) (region_lengths lmax nodes) lengths.old }
 {
     geopotential::lists::geopotential_region_lengths(lmax, nodes, lengths)
@@ -329,7 +328,7 @@ pub extern "C" fn geopotential_polygon_intervals_lengths(
     vertices: usize,
     lengths: &mut [usize],
 ) -> u32
-    ensures value { result ≡ answer_number (lengths_check (size_check 4096 vertices) (intervals_lengths vertices) (length lengths.old)) }
+    ensures value { result ≡ result_number (lengths_check (size_check 4096 vertices) (intervals_lengths vertices) (length lengths.old)) }
     ensures lengths_after { lengths.new ≡ lengths_after (size_check 4096 vertices) (intervals_lengths vertices) lengths.old }
 {
     geopotential::lists::geopotential_polygon_intervals_lengths(vertices, lengths)
@@ -337,7 +336,7 @@ pub extern "C" fn geopotential_polygon_intervals_lengths(
 
 #[unsafe(no_mangle)]
 pub extern "C" fn geopotential_polygon_breaks_lengths(vertices: usize, lengths: &mut [usize]) -> u32
-    ensures value { result ≡ answer_number (lengths_check (size_check 4096 vertices) (breaks_lengths vertices) (length lengths.old)) }
+    ensures value { result ≡ result_number (lengths_check (size_check 4096 vertices) (breaks_lengths vertices) (length lengths.old)) }
     ensures lengths_after { lengths.new ≡ lengths_after (size_check 4096 vertices) (breaks_lengths vertices) lengths.old }
 {
     geopotential::lists::geopotential_polygon_breaks_lengths(vertices, lengths)
@@ -349,7 +348,7 @@ pub extern "C" fn geopotential_basin_kernel_lengths(
     nodes: usize,
     lengths: &mut [usize],
 ) -> u32
-    ensures value { result ≡ answer_number (lengths_check (kernel_sizes lmax nodes) (kernel_lengths lmax nodes) (length lengths.old)) }
+    ensures value { result ≡ result_number (lengths_check (kernel_sizes lmax nodes) (kernel_lengths lmax nodes) (length lengths.old)) }
     ensures lengths_after { lengths.new ≡ lengths_after (kernel_sizes lmax nodes) (kernel_lengths lmax nodes) lengths.old }
 {
     geopotential::lists::geopotential_basin_kernel_lengths(lmax, nodes, lengths)

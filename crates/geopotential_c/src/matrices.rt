@@ -1,12 +1,12 @@
 // The calls of the crate linalg: eigenvalues and eigenvectors of symmetric matrices.
 ghost use Rattle.std.specs.Prelude.{◌≡◌, ◌+◌, ◌*◌, ◌≤◌, length};
 ghost use Rattle.std.specs.Float.{nan};
-ghost use Rattle.refusal.specs.Numbers.{after, behind, answer_number};
+ghost use Rattle.refusal.specs.Numbers.{after, behind, result_number};
 ghost use Rattle.storage.specs.Elements.{from};
 ghost use Rattle.storage.specs.Fill.{fill};
 ghost use Rattle.linalg.specs.Eigen.{householder_values, householder_vectors, householder_convergence};
 ghost use Rattle.linalg.specs.Eigen.{eigen_values, eigen_vectors, eigen_convergence, eigen_limit, eigen_check};
-ghost use Rattle.linalg.specs.Solution.{settled_number, solution_number};
+ghost use Rattle.linalg.specs.Solution.{settled_number};
 ghost use Rattle.geopotential.specs.Matrices.{settled_after, count_after};
 
 #[unsafe(no_mangle)]
@@ -19,7 +19,7 @@ pub extern "C" fn geopotential_symmetric_eigen(
     settled: &mut u32,
     count: &mut usize,
 ) -> u32
-    ensures value { result ≡ answer_number (eigen_check n (length a.now) (length work.old) (length values.old)
+    ensures value { result ≡ result_number (eigen_check n (length a.now) (length work.old) (length values.old)
         (length vectors.old)) }
     ensures values_after { values.new ≡ after
         (eigen_check n (length a.now) (length work.old) (length values.old) (length vectors.old))
@@ -57,7 +57,7 @@ pub extern "C" fn geopotential_householder_ql(
     settled: &mut u32,
     count: &mut usize,
 ) -> u32
-    ensures value { result ≡ answer_number (eigen_check n (length a.now) (length work.old) (length values.old)
+    ensures value { result ≡ result_number (eigen_check n (length a.now) (length work.old) (length values.old)
         (length vectors.old)) }
     ensures values_after { values.new ≡ after
         (eigen_check n (length a.now) (length work.old) (length values.old) (length vectors.old))

@@ -1,7 +1,7 @@
 // The calls of the crate partials: the derivatives of a field at points, and local accelerations.
 ghost use Rattle.std.specs.Prelude.{◌≡◌, ℕ, ◌*◌, ◌≤◌, length};
 ghost use Rattle.std.specs.Float.{nan};
-ghost use Rattle.refusal.specs.Numbers.{after, behind, answer_number};
+ghost use Rattle.refusal.specs.Numbers.{after, behind, result_number};
 ghost use Rattle.storage.specs.Elements.{from};
 ghost use Rattle.storage.specs.Fill.{fill};
 ghost use Rattle.storage.specs.Filled.{Filled};
@@ -25,7 +25,7 @@ pub extern "C" fn geopotential_partials(
     work: &mut [f64],
     out: &mut [f64],
 ) -> u32
-    ensures value { result ≡ answer_number (point_check nmax (length c.now) (length s.now) (length trig.now)
+    ensures value { result ≡ result_number (point_check nmax (length c.now) (length s.now) (length trig.now)
         (length work.old) (length out.old)) }
     ensures out_after { out.new ≡ after
         (point_check nmax (length c.now) (length s.now) (length trig.now) (length work.old)
@@ -59,7 +59,7 @@ pub extern "C" fn geopotential_partials_along(
     work: &mut [f64],
     out: &mut [f64],
 ) -> u32
-    ensures value { result ≡ answer_number (along_check nmax (length c.now) (length s.now) points (length radii.now)
+    ensures value { result ≡ result_number (along_check nmax (length c.now) (length s.now) points (length radii.now)
         (length latitudes.now) (length trig.now) (length work.old) (length out.old)) }
     ensures out_after { out.new ≡ after
         (along_check nmax (length c.now) (length s.now) points (length radii.now)
@@ -97,7 +97,7 @@ pub extern "C" fn geopotential_acceleration_neu(
     u: f64,
     out: &mut [f64],
 ) -> u32
-    ensures value { result ≡ answer_number (three_check (length out.old)) }
+    ensures value { result ≡ result_number (three_check (length out.old)) }
     ensures out_after { out.new ≡ after (three_check (length out.old))
         (fill 0 (from 0 (acceleration_of (four v dr dlat dlon) r u) nan) 3 out.old) out.old }
 {
@@ -116,7 +116,7 @@ pub extern "C" fn geopotential_gravity_neu(
     omega: f64,
     out: &mut [f64],
 ) -> u32
-    ensures value { result ≡ answer_number (three_check (length out.old)) }
+    ensures value { result ≡ result_number (three_check (length out.old)) }
     ensures out_after { out.new ≡ after (three_check (length out.old))
         (fill 0 (from 0 (gravity_of (four v dr dlat dlon) r t u omega) nan) 3 out.old) out.old }
 {

@@ -1,6 +1,6 @@
 // The calls of the crate second_partials: the first and second derivatives of a field at points, and the tensor of gravity gradients.
 ghost use Rattle.std.specs.Prelude.{◌≡◌, ℕ, ◌*◌, ◌≤◌, length};
-ghost use Rattle.refusal.specs.Numbers.{after, behind, answer_number};
+ghost use Rattle.refusal.specs.Numbers.{after, behind, result_number};
 ghost use Rattle.storage.specs.Fill.{fill};
 ghost use Rattle.storage.specs.Filled.{Filled};
 ghost use Rattle.storage.specs.Rectangle.{by_rows};
@@ -22,7 +22,7 @@ pub extern "C" fn geopotential_second_partials(
     work: &mut [f64],
     out: &mut [f64],
 ) -> u32
-    ensures value { result ≡ answer_number (ten_check nmax (length c.now) (length s.now) (length trig.now)
+    ensures value { result ≡ result_number (ten_check nmax (length c.now) (length s.now) (length trig.now)
         (length work.old) (length out.old)) }
     ensures out_after { out.new ≡ after
         (ten_check nmax (length c.now) (length s.now) (length trig.now) (length work.old)
@@ -58,7 +58,7 @@ pub extern "C" fn geopotential_second_partials_along(
     work: &mut [f64],
     out: &mut [f64],
 ) -> u32
-    ensures value { result ≡ answer_number (second_along_check nmax (length c.now) (length s.now) points
+    ensures value { result ≡ result_number (second_along_check nmax (length c.now) (length s.now) points
         (length radii.now) (length latitudes.now) (length trig.now) (length work.old)
         (length out.old)) }
     ensures out_after { out.new ≡ after
@@ -103,7 +103,7 @@ pub extern "C" fn geopotential_tensor_neu(
     u: f64,
     out: &mut [f64],
 ) -> u32
-    ensures value { result ≡ answer_number (nine_check (length out.old)) }
+    ensures value { result ≡ result_number (nine_check (length out.old)) }
     ensures out_after { out.new ≡ after (nine_check (length out.old))
         (fill 0 (by_rows (tensor_cell (tensor_of (ten v dr dlat dlon drr dlatlat dlonlon drlat drlon dlatlon) r t u)) 3) 9 out.old)
         out.old }

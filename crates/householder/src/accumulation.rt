@@ -16,10 +16,8 @@ fn accumulate_column(n: usize, at: usize, vj: f64, p: &[f64], q: &mut [f64])
     requires fact_2 { at + n ≤ length q.old }
     ensures { Filled at (accumulated_run at vj p.now q.old) n q.old q.new }
 {
-    let mut i = 0;
-    while i < n {
+    for i in 0..n {
         q[at + i] = q[at + i] - 2.0 * p[i] * vj;
-        i = i + 1;
     }
 }
 
@@ -32,10 +30,8 @@ fn accumulate_columns(n: usize, lo: usize, v: &[f64], p: &[f64], q: &mut [f64])
     ensures { Filled (lo * n) (by_rows (accumulated_columns n lo v.now p.now q.old) n) ((n - lo) * n)
         q.old q.new }
 {
-    let mut j = 0;
-    while lo + j < n {
+    for j in 0..n - lo {
         accumulate_column(n, matrix::row(n, lo + j), v[lo + j], p, q);
-        j = j + 1;
     }
 }
 

@@ -10,10 +10,8 @@ fn add_multiple(n: usize, at: usize, x: f64, w: &[f64], p: &mut [f64])
     requires fact_2 { n ≤ length p.old }
     ensures { Filled 0 (plus_multiple at x w.now p.old) n p.old p.new }
 {
-    let mut i = 0;
-    while i < n {
+    for i in 0..n {
         p[i] = p[i] + w[at + i] * x;
-        i = i + 1;
     }
 }
 
@@ -26,10 +24,8 @@ fn add_four(n: usize, at: usize, x0: f64, x1: f64, x2: f64, x3: f64, w: &[f64], 
     let b = at + n;
     let c = b + n;
     let d = c + n;
-    let mut i = 0;
-    while i < n {
+    for i in 0..n {
         p[i] = p[i] + w[at + i] * x0 + w[b + i] * x1 + w[c + i] * x2 + w[d + i] * x3;
-        i = i + 1;
     }
 }
 
@@ -44,8 +40,9 @@ fn by_fours(n: usize, lo: usize, w: &[f64], v: &[f64], p: &mut [f64]) -> usize
     ensures fact_3 { Filled 0 (columns_product n lo result w.now v.now) n p.old p.new }
 {
     storage::clear(n, p);
-    let mut j = lo;
-    while j + 3 < n {
+    let blocks = (n - lo) / 4;
+    for block in 0..blocks {
+        let j = lo + 4 * block;
         add_four(
             n,
             matrix::row(n, j),
@@ -56,9 +53,8 @@ fn by_fours(n: usize, lo: usize, w: &[f64], v: &[f64], p: &mut [f64]) -> usize
             w,
             p,
         );
-        j = j + 4;
     }
-    j
+    lo + 4 * blocks
 }
 
 // The same product, with the columns from `next` on added one by one to those before them.
@@ -71,10 +67,8 @@ fn one_by_one(n: usize, lo: usize, next: usize, w: &[f64], v: &[f64], p: &mut [f
     requires filled { Filled 0 (columns_product n lo next w.now v.now) n p.old p.old }
     ensures { Filled 0 (columns_product n lo n w.now v.now) n p.old p.new }
 {
-    let mut j = next;
-    while j < n {
+    for j in next..n {
         add_multiple(n, matrix::row(n, j), v[j], w, p);
-        j = j + 1;
     }
 }
 

@@ -47,10 +47,8 @@ fn reflections(n: usize, v: &mut [f64], p: &mut [f64], w: &mut [f64], q: &mut [f
     ensures kept_1 { Kept (n * n) w.old w.new }
     ensures kept_2 { Kept (n * n) q.old q.new }
 {
-    let mut k = 0;
-    while k + 2 < n {
+    for k in 0..n.saturating_sub(2) {
         clear_column(n, k, v, p, w, q);
-        k = k + 1;
     }
 }
 
@@ -72,10 +70,8 @@ fn subdiagonal(n: usize, w: &mut [f64])
     requires { Room n w.old }
     ensures { Filled 0 (subdiagonal_in n w.old) n w.old w.new }
 {
-    let mut i = 0;
-    while i < n {
+    for i in 0..n {
         w[i] = subdiagonal_at(n, i, w);
-        i = i + 1;
     }
 }
 

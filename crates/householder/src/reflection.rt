@@ -18,10 +18,8 @@ fn update_column(n: usize, at: usize, vj: f64, qj: f64, v: &[f64], q: &[f64], w:
     requires fact_3 { at + n ≤ length w.old }
     ensures { Filled at (updated_run at vj qj v.now q.now w.old) n w.old w.new }
 {
-    let mut i = 0;
-    while i < n {
+    for i in 0..n {
         w[at + i] = w[at + i] - 2.0 * (v[i] * qj + q[i] * vj);
-        i = i + 1;
     }
 }
 
@@ -33,10 +31,8 @@ fn update(n: usize, v: &[f64], q: &[f64], w: &mut [f64])
     ensures { Filled 0 (by_rows (updated_columns n v.now q.now w.old) n) (n * n)
         w.old w.new }
 {
-    let mut j = 0;
-    while j < n {
+    for j in 0..n {
         update_column(n, matrix::row(n, j), v[j], q[j], v, q, w);
-        j = j + 1;
     }
 }
 

@@ -14,10 +14,8 @@ pub fn dot(x: &[f64], xat: usize, y: &[f64], yat: usize, lo: usize, hi: usize) -
     ensures { result ≡ dot (from xat x.now nan) (from yat y.now nan) lo hi }
 {
     let mut sum = 0.0;
-    let mut i = lo;
-    while i < hi {
+    for i in lo..hi {
         sum = sum + x[xat + i] * y[yat + i];
-        i = i + 1;
     }
     sum
 }
@@ -59,10 +57,8 @@ fn less_alpha(n: usize, k: usize, size: f64, at: usize, w: &[f64], v: &mut [f64]
     requires fact_3 { n ≤ length v.old }
     ensures { Filled 0 (less_alpha k size (from at w.now nan)) n v.old v.new }
 {
-    let mut i = 0;
-    while i < n {
+    for i in 0..n {
         v[i] = less_alpha_at(k, size, i, w[at + i]);
-        i = i + 1;
     }
 }
 
@@ -71,10 +67,8 @@ fn divide(n: usize, s: f64, v: &mut [f64])
     requires { n ≤ length v.old }
     ensures { Filled 0 (quotient s v.old) n v.old v.new }
 {
-    let mut i = 0;
-    while i < n {
+    for i in 0..n {
         v[i] = v[i] / s;
-        i = i + 1;
     }
 }
 
@@ -96,9 +90,7 @@ pub fn subtract_multiple(n: usize, x: f64, v: &[f64], p: &mut [f64])
     requires fact_2 { n ≤ length p.old }
     ensures { Filled 0 (less_multiple x v.now p.old) n p.old p.new }
 {
-    let mut i = 0;
-    while i < n {
+    for i in 0..n {
         p[i] = p[i] - x * v[i];
-        i = i + 1;
     }
 }

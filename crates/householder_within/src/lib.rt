@@ -37,10 +37,8 @@ fn reflections(n: usize, at: usize, v: &mut [f64], p: &mut [f64], w: &mut [f64])
     ensures fact_1 { held_within n at w.new ≡ reductions n (held_within n at w.old) }
     ensures fact_2 { Kept (at + n * n) w.old w.new }
 {
-    let mut k = 0;
-    while k + 2 < n {
+    for k in 0..n.saturating_sub(2) {
         clear_column(n, k, at, v, p, w);
-        k = k + 1;
     }
 }
 
@@ -50,10 +48,8 @@ fn subdiagonal(n: usize, w: &[f64], e: &mut [f64])
     requires fact_2 { n ≤ length e.old }
     ensures { Filled 0 (subdiagonal_in n w.now) n e.old e.new }
 {
-    let mut i = 0;
-    while i < n {
+    for i in 0..n {
         e[i] = householder::subdiagonal_at(n, i, w);
-        i = i + 1;
     }
 }
 

@@ -8,7 +8,7 @@ ghost use Rattle.jacobi.specs.Jacobi.{state, squares, add_off_row, off_squares, 
 ghost use Rattle.jacobi.specs.Jacobi.{jacobi, jacobi_values, jacobi_vectors, jacobi_sweeps, jacobi_settled};
 ghost use Rattle.jacobi.specs.JacobiLaws.{held, Became};
 
-// How many sweeps there were, and whether the test before one was met.
+// How many sweeps there were, and whether the test before one was met. Both stand in either case, so this is no Option.
 #[derive(Clone, Copy)]
 pub struct Settled {
     pub sweeps: usize,
@@ -21,10 +21,8 @@ fn squares(a: &[f64]) -> f64
 {
     let size = a.len();
     let mut t = 0.0;
-    let mut k = 0;
-    while k < size {
+    for k in 0..size {
         t = t + a[k] * a[k];
-        k = k + 1;
     }
     t
 }
@@ -37,10 +35,8 @@ fn add_off_row(n: usize, p: usize, from: f64, a: &[f64]) -> f64
 {
     let at = matrix::row(n, p);
     let mut t = from;
-    let mut q = p + 1;
-    while q < n {
+    for q in p + 1..n {
         t = t + a[at + q] * a[at + q];
-        q = q + 1;
     }
     t
 }
@@ -51,10 +47,8 @@ fn off_squares(n: usize, a: &[f64]) -> f64
     ensures { result ≡ off_squares n (plain n a.now) }
 {
     let mut t = 0.0;
-    let mut p = 0;
-    while p < n {
+    for p in 0..n {
         t = add_off_row(n, p, t, a);
-        p = p + 1;
     }
     t
 }
@@ -126,10 +120,8 @@ fn sweep_row(n: usize, p: usize, a: &mut [f64], v: &mut [f64])
     ensures { Became n (sweep_row n p (held n a.old v.old))
         a.old v.old a.new v.new }
 {
-    let mut q = p + 1;
-    while q < n {
+    for q in p + 1..n {
         rotate_at(n, p, q, a, v);
-        q = q + 1;
     }
 }
 
@@ -140,10 +132,8 @@ fn sweep(n: usize, a: &mut [f64], v: &mut [f64])
     ensures { Became n (sweep n (held n a.old v.old))
         a.old v.old a.new v.new }
 {
-    let mut p = 0;
-    while p < n {
+    for p in 0..n {
         sweep_row(n, p, a, v);
-        p = p + 1;
     }
 }
 
@@ -156,8 +146,7 @@ fn sweeps(n: usize, scale: f64, a: &mut [f64], v: &mut [f64]) -> Settled
     ensures fact_3 { Kept (n * n) v.old v.new }
     ensures fact_4 { result.sweeps ≤ 100 }
 {
-    let mut k = 0usize;
-    while k < 100 {
+    for k in 0..100 {
         if off_squares(n, a) <= 1e-34 * scale {
             return Settled {
                 sweeps: k,
@@ -165,10 +154,9 @@ fn sweeps(n: usize, scale: f64, a: &mut [f64], v: &mut [f64]) -> Settled
             };
         }
         sweep(n, a, v);
-        k = k + 1;
     }
     Settled {
-        sweeps: k,
+        sweeps: 100,
         settled: false,
     }
 }

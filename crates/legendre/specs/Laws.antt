@@ -1,39 +1,38 @@
 -- Change request W3, on what calls of `new` and `grow` hand back, whatever their lists held. Assumes nothing.
-use Rattle.std.specs.Prelude.{◌≡◌, List, ℕ, ◌+◌, ◌≤◌, length, take, Float}
+use Rattle.std.specs.Prelude.{◌≡◌, List, ℕ, ◌+◌, ◌≤◌, length, take, Float, Ok, Result, ⊤}
 use Rattle.std.proofs.Common.{sym, ap, ◌∙◌, le_refl, arith}
 use Rattle.refusal.specs.Numbers.{after}
-use Rattle.refusal.specs.declared.Answer.{Answer}
-use Rattle.refusal.specs.declared.Answer.TheVariants.{Done}
 use Rattle.storage.specs.Checks.{room_check, room_passed}
 use Rattle.storage.specs.Fill.{fill, fill_again, length-fill}
 use Rattle.storage.specs.Triangle.{table_size, along, row_start_monotone}
 use Rattle.recursion.specs.Recursion.{a_cell, b_cell}
 use Rattle.legendre.specs.Grown.{made, grown, grown_made, made_front}
+use Rattle.refusal.specs.declared.Refusal.{Refusal}
 
 -- `new` with the lists a and b answers r and leaves a' and b': its promise, which is proved by way of this record
-pub record New (N : ℕ) (a b : List Float) (r : Answer) (a' b' : List Float) : Type 0 where
+pub record New (N : ℕ) (a b : List Float) (r : Result ⊤ Refusal) (a' b' : List Float) : Type 0 where
   pub answers : r ≡ room_check N (length a) (length b)
   pub leaves_a : a' ≡ after r (fill 0 (along a_cell) (table_size N) a) a
   pub leaves_b : b' ≡ after r (fill 0 (along b_cell) (table_size N) b) b
 
 -- `grow` likewise
-pub record Grow (n N : ℕ) (a b : List Float) (r : Answer) (a' b' : List Float) : Type 0 where
+pub record Grow (n N : ℕ) (a b : List Float) (r : Result ⊤ Refusal) (a' b' : List Float) : Type 0 where
   pub answers : r ≡ room_check N (length a) (length b)
   pub leaves_a : a' ≡ after r (grown a_cell n N a) a
   pub leaves_b : b' ≡ after r (grown b_cell n N b) b
 
 -- the two promises as the calls state them
-pub new_promise : {N : ℕ} {a b a' b' : List Float} {r : Answer} → New N a b r a' b'
+pub new_promise : {N : ℕ} {a b a' b' : List Float} {r : Result ⊤ Refusal} → New N a b r a' b'
     → (r ≡ room_check N (length a) (length b))
     × ((a' ≡ after r (fill 0 (along a_cell) (table_size N) a) a) × (b' ≡ after r (fill 0 (along b_cell) (table_size N) b) b))
 new_promise w = (w.answers, (w.leaves_a, w.leaves_b))
 
-pub grow_promise : {n N : ℕ} {a b a' b' : List Float} {r : Answer} → Grow n N a b r a' b'
+pub grow_promise : {n N : ℕ} {a b a' b' : List Float} {r : Result ⊤ Refusal} → Grow n N a b r a' b'
     → (r ≡ room_check N (length a) (length b)) × ((a' ≡ after r (grown a_cell n N a) a) × (b' ≡ after r (grown b_cell n N b) b))
 grow_promise w = (w.answers, (w.leaves_a, w.leaves_b))
 
 -- the tables of one degree are the front of those of any larger degree, bit by bit
-pub new_front : (N M : ℕ) {a b a' b' c d c' d' : List Float} → N ≤ M → New N a b Done a' b' → New M c d Done c' d'
+pub new_front : (N M : ℕ) {a b a' b' c d c' d' : List Float} → N ≤ M → New N a b (Ok tt) a' b' → New M c d (Ok tt) c' d'
     → (take (table_size N) c' ≡ take (table_size N) a') × (take (table_size N) d' ≡ take (table_size N) b')
 new_front N M {a} {b} {a'} {b'} {c} {d} h small large =
     let s = room_passed N (length a) (length b) small.answers in
@@ -53,7 +52,7 @@ holds f n d {l} e =
     e ∙ sym (fill_again 0 (along f) (along f) (table_size n) (table_size n) d (le_refl (table_size n))) ∙ ap (made f n) (sym e)
 
 -- `grow` from the degree of the tables hands back what `new` would with the same lists, also where it is refused
-pub grow_is_new : (n N : ℕ) {a b c d a' b' : List Float} {r : Answer} → New n c d Done a b → Grow n N a b r a' b' → New N a b r a' b'
+pub grow_is_new : (n N : ℕ) {a b c d a' b' : List Float} {r : Result ⊤ Refusal} → New n c d (Ok tt) a b → Grow n N a b r a' b' → New N a b r a' b'
 grow_is_new n N {a} {b} {c} {d} {r = r} made_by by = record {
   answers = by.answers;
   leaves_a = by.leaves_a ∙ ap (λ (l : List Float). after r l a) (grown_made a_cell n N a (holds a_cell n c made_by.leaves_a));
@@ -61,7 +60,7 @@ grow_is_new n N {a} {b} {c} {d} {r = r} made_by by = record {
 }
 
 -- so tables that grow, one degree after another or by any steps up, are those that `new` makes at once of the lists before the first
-pub grow_after_new : (n N : ℕ) {a b c d a' b' : List Float} → n ≤ N → New n c d Done a b → Grow n N a b Done a' b' → New N c d Done a' b'
+pub grow_after_new : (n N : ℕ) {a b c d a' b' : List Float} → n ≤ N → New n c d (Ok tt) a b → Grow n N a b (Ok tt) a' b' → New N c d (Ok tt) a' b'
 grow_after_new n N {a} {b} {c} {d} h made_by by =
     let at_once = grow_is_new n N made_by by in
     let m = row_start_monotone (n + 1) (N + 1) (omega arith) in record {

@@ -1,6 +1,6 @@
 -- Change request W6, on what calls hand back, whatever their lists held: with the sine t negated and the cosine u kept, entry (n, m) of the table is the
 -- old one times (-1) ^ (n - m), and of the first derivative times (-1) ^ (n - m + 1), for all numbers t and u and all tables a and b. Assumes nothing.
-use Rattle.std.specs.Prelude.{◌≡◌, Bool, true, false, cond, List, ℕ, ◌+◌, ◌-◌, ◌≤◌, T, eqb, ltb, length, get_or, take, Float}
+use Rattle.std.specs.Prelude.{◌≡◌, Bool, true, false, cond, List, ℕ, ◌+◌, ◌-◌, ◌≤◌, T, eqb, ltb, length, get_or, take, Float, Ok, Result, ⊤}
 use Rattle.std.proofs.Common.{sym, ◌∙◌, subst, subst₂, zero-add, le_refl, arith, get_or-take}
 use Rattle.std.proofs.Math.Path.{ap}
 use Rattle.std.specs.Float.Ieee.{nan, fits, neg}
@@ -11,8 +11,6 @@ use Rattle.number.specs.Float64.{◌⊖◌, ◌⊗◌, zero64}
 use Rattle.number.specs.Parity.{is_odd, minus_one_to, minus_one_to_lem}
 use Rattle.number.specs.Turned.{Turned, Alike, turned_if, turned_alike, turned_times, turned_back, turned_twice}
 use Rattle.refusal.specs.Numbers.{after}
-use Rattle.refusal.specs.declared.Answer.{Answer}
-use Rattle.refusal.specs.declared.Answer.TheVariants.{Done}
 use Rattle.storage.specs.Answers.{size_is}
 use Rattle.storage.specs.Checks.{outputs_check, tables_done, Outputs, outputs_passed}
 use Rattle.storage.specs.Elements.{from}
@@ -25,36 +23,37 @@ use Rattle.derivative.specs.Derivative.{half64, lower_of, upper_of, zonal_of, d_
 use Rattle.derivative.specs.Mirror.{p_each, dp_mirror}
 use Rattle.legendre.specs.Checks.{compute_check, mirror_check, compute_done, compute_passed, mirror_done, mirror_passed}
 use Rattle.legendre.specs.Mirrored.{mirrored_row, mirrored}
+use Rattle.refusal.specs.declared.Refusal.{Refusal}
 
 -- `compute` at t and u with the lists a, b and p answers r and leaves p': its promise, which is proved by way of this record
-pub record Compute (N : ℕ) (t u : Float) (a b p : List Float) (r : Answer) (p' : List Float) : Type 0 where
+pub record Compute (N : ℕ) (t u : Float) (a b p : List Float) (r : Result ⊤ Refusal) (p' : List Float) : Type 0 where
   pub answers : r ≡ compute_check N (length a) (length b) (length p)
   pub leaves : p' ≡ after r (fill 0 (along (p_cell (from 0 a nan) (from 0 b nan) t u)) (table_size N) p) p
 
 -- `compute_with_derivative` likewise, with the lists p and dp
-pub record Derive (N : ℕ) (t u : Float) (a b p dp : List Float) (r : Answer) (p' dp' : List Float) : Type 0 where
+pub record Derive (N : ℕ) (t u : Float) (a b p dp : List Float) (r : Result ⊤ Refusal) (p' dp' : List Float) : Type 0 where
   pub answers : r ≡ outputs_check N (length a) (length b) N (length p) (length dp)
   pub leaves : p' ≡ after r (fill 0 (along (p_cell (from 0 a nan) (from 0 b nan) t u)) (table_size N) p) p
   pub leaves_derivative : dp' ≡ after r (fill 0 (along (dp_cell (from 0 a nan) (from 0 b nan) t u)) (table_size N) dp) dp
 
 -- `mirror` likewise, where shift is 0, and `mirror_derivative`, where it is 1
-pub record Mirror (shift N : ℕ) (table : List Float) (r : Answer) (table' : List Float) : Type 0 where
+pub record Mirror (shift N : ℕ) (table : List Float) (r : Result ⊤ Refusal) (table' : List Float) : Type 0 where
   pub answers : r ≡ mirror_check N (length table)
   pub leaves : table' ≡ after r (fill 0 (along (mirrored shift table)) (table_size N) table) table
 
 -- the promises as the calls state them
-pub compute_promise : (N : ℕ) (t u : Float) (a b p : List Float) {p' : List Float} {r : Answer} → Compute N t u a b p r p'
+pub compute_promise : (N : ℕ) (t u : Float) (a b p : List Float) {p' : List Float} {r : Result ⊤ Refusal} → Compute N t u a b p r p'
     → (r ≡ compute_check N (length a) (length b) (length p))
     × (p' ≡ after r (fill 0 (along (p_cell (from 0 a nan) (from 0 b nan) t u)) (table_size N) p) p)
 compute_promise N t u a b p w = (w.answers, w.leaves)
 
-pub derive_promise : (N : ℕ) (t u : Float) (a b p dp : List Float) {p' dp' : List Float} {r : Answer} → Derive N t u a b p dp r p' dp'
+pub derive_promise : (N : ℕ) (t u : Float) (a b p dp : List Float) {p' dp' : List Float} {r : Result ⊤ Refusal} → Derive N t u a b p dp r p' dp'
     → (r ≡ outputs_check N (length a) (length b) N (length p) (length dp))
     × ((p' ≡ after r (fill 0 (along (p_cell (from 0 a nan) (from 0 b nan) t u)) (table_size N) p) p)
     × (dp' ≡ after r (fill 0 (along (dp_cell (from 0 a nan) (from 0 b nan) t u)) (table_size N) dp) dp))
 derive_promise N t u a b p dp w = (w.answers, (w.leaves, w.leaves_derivative))
 
-pub mirror_promise : {shift N : ℕ} {table table' : List Float} {r : Answer} → Mirror shift N table r table'
+pub mirror_promise : {shift N : ℕ} {table table' : List Float} {r : Result ⊤ Refusal} → Mirror shift N table r table'
     → (r ≡ mirror_check N (length table)) × (table' ≡ after r (fill 0 (along (mirrored shift table)) (table_size N) table) table)
 mirror_promise w = (w.answers, w.leaves)
 
@@ -85,15 +84,15 @@ module _ {f g : ℕ → ℕ → Float} {N : ℕ} {d l d' l' : List Float} (w : T
       rw minus_one_to_lem (turned_times (is_odd (e n m)) (subst (λ (x : Float). T (fits binary64 x)) (sym (entry_is w n m h k)) fit) entries_turned)
 
 -- what the mirror makes of one of them, which it takes
-module _ {f : ℕ → ℕ → Float} {N : ℕ} {d l : List Float} (top : N ≤ 2700) (w : Table f N d l) (shift : ℕ) {r : Answer} {x : List Float}
+module _ {f : ℕ → ℕ → Float} {N : ℕ} {d l : List Float} (top : N ≤ 2700) (w : Table f N d l) (shift : ℕ) {r : Result ⊤ Refusal} {x : List Float}
     (by : Mirror shift N (take (table_size N) l) r x) where
-  mirror_answers : r ≡ Done
+  mirror_answers : r ≡ Ok tt
   mirror_answers = by.answers ∙ sym (mirror_done N (length (take (table_size N) l)) top (table_length w))
 
   mirror_table : Table (mirrored shift (take (table_size N) l)) N (take (table_size N) l) x
   mirror_table =
       let table = take (table_size N) l in record {
-        made = by.leaves ∙ ap (λ (z : Answer). after z (fill 0 (along (mirrored shift table)) (table_size N) table) table) mirror_answers;
+        made = by.leaves ∙ ap (λ (z : Result ⊤ Refusal). after z (fill 0 (along (mirrored shift table)) (table_size N) table) table) mirror_answers;
         room = omega (arith, table_length w);
       }
 
@@ -115,10 +114,10 @@ unfolding p_cell
 p_fits a b t u n m = mul-fits binary64 _ _
 
 -- what `compute` leaves where it is done
-computed : {N : ℕ} {t u : Float} {a b p p' : List Float} → Compute N t u a b p Done p' → Table (p_cell (from 0 a nan) (from 0 b nan) t u) N p p'
+computed : {N : ℕ} {t u : Float} {a b p p' : List Float} → Compute N t u a b p (Ok tt) p' → Table (p_cell (from 0 a nan) (from 0 b nan) t u) N p p'
 computed {N} {a = a} {b} {p} w = record { made = w.leaves; room = (compute_passed N (length a) (length b) (length p) w.answers).room }
 
-module _ (N : ℕ) (t u : Float) {a b p p' q q' : List Float} (north : Compute N t u a b p Done p') (south : Compute N (neg t) u a b q Done q') where
+module _ (N : ℕ) (t u : Float) {a b p p' q q' : List Float} (north : Compute N t u a b p (Ok tt) p') (south : Compute N (neg t) u a b q (Ok tt) q') where
   -- entry (n, m) at -t is that at t, with its sign turned where n - m is odd
   pub compute_turned : (n m : ℕ) → m ≤ n → n ≤ N → Turned (is_odd (n - m)) (get_or p' (idx n m) nan) (get_or q' (idx n m) nan)
   compute_turned n m h k = entries_turned (computed north) (computed south) (λ i j. i - j) (λ i j l. p_mirror (from 0 a nan) (from 0 b nan) t u i j) n m h k
@@ -130,8 +129,8 @@ module _ (N : ℕ) (t u : Float) {a b p p' q q' : List Float} (north : Compute N
       (p_fits (from 0 a nan) (from 0 b nan) t u n m)
 
   -- so what `mirror` makes of the table at t, which it takes, is the table at -t
-  pub mirror_computes : {r : Answer} {x : List Float} → Mirror 0 N (take (table_size N) p') r x
-      → (r ≡ Done) × ((n m : ℕ) → m ≤ n → n ≤ N → Alike (get_or x (idx n m) nan) (get_or q' (idx n m) nan))
+  pub mirror_computes : {r : Result ⊤ Refusal} {x : List Float} → Mirror 0 N (take (table_size N) p') r x
+      → (r ≡ Ok tt) × ((n m : ℕ) → m ≤ n → n ≤ N → Alike (get_or x (idx n m) nan) (get_or q' (idx n m) nan))
   mirror_computes by =
       let top = (compute_passed N (length a) (length b) (length p) north.answers).tables.top in
       let each = p_each (from 0 a nan) (from 0 b nan) t u in
@@ -148,7 +147,7 @@ d_fits s n m = go (eqb n 0) (eqb m 0) (ltb m n)
     go false true z = mul-fits binary64 _ _
     go false false z = mul-fits binary64 _ _
 
-module _ {N : ℕ} {t u : Float} {a b p dp p' dp' : List Float} (w : Derive N t u a b p dp Done p' dp') where
+module _ {N : ℕ} {t u : Float} {a b p dp p' dp' : List Float} (w : Derive N t u a b p dp (Ok tt) p' dp') where
   passed : Outputs N (length a) (length b) N (length p) (length dp)
   passed = outputs_passed N (length a) (length b) N (length p) (length dp) w.answers
 
@@ -156,7 +155,7 @@ module _ {N : ℕ} {t u : Float} {a b p dp p' dp' : List Float} (w : Derive N t 
   size = let z = size_is N passed.tables.top in omega (arith, z, passed.second)
 
   -- the values are those of `compute`
-  pub derive_computes : Compute N t u a b p Done p'
+  pub derive_computes : Compute N t u a b p (Ok tt) p'
   derive_computes =
       let t = passed.tables in
       let z = size_is N t.top in record {
@@ -167,8 +166,8 @@ module _ {N : ℕ} {t u : Float} {a b p dp p' dp' : List Float} (w : Derive N t 
   derived : Table (dp_cell (from 0 a nan) (from 0 b nan) t u) N dp dp'
   derived = record { made = w.leaves_derivative; room = size }
 
-module _ (N : ℕ) (t u : Float) {a b p dp p' dp' q dq q' dq' : List Float} (north : Derive N t u a b p dp Done p' dp')
-    (south : Derive N (neg t) u a b q dq Done q' dq') where
+module _ (N : ℕ) (t u : Float) {a b p dp p' dp' q dq q' dq' : List Float} (north : Derive N t u a b p dp (Ok tt) p' dp')
+    (south : Derive N (neg t) u a b q dq (Ok tt) q' dq') where
   -- entry (n, m) of the derivative at -t is that at t, with its sign turned where n - m + 1 is odd
   pub derive_turned : (n m : ℕ) → m ≤ n → n ≤ N → Turned (is_odd (n - m + 1)) (get_or dp' (idx n m) nan) (get_or dq' (idx n m) nan)
   derive_turned n m h k = entries_turned (derived north) (derived south) (λ i j. i - j + 1) (dp_mirror (from 0 a nan) (from 0 b nan) t u) n m h k
@@ -180,8 +179,8 @@ module _ (N : ℕ) (t u : Float) {a b p dp p' dp' q dq q' dq' : List Float} (nor
       (d_fits (p_cell (from 0 a nan) (from 0 b nan) t u) n m)
 
   -- so what `mirror_derivative` makes of the table at t, which it takes, is the table at -t
-  pub mirror_derives : {r : Answer} {x : List Float} → Mirror 1 N (take (table_size N) dp') r x
-      → (r ≡ Done) × ((n m : ℕ) → m ≤ n → n ≤ N → Alike (get_or x (idx n m) nan) (get_or dq' (idx n m) nan))
+  pub mirror_derives : {r : Result ⊤ Refusal} {x : List Float} → Mirror 1 N (take (table_size N) dp') r x
+      → (r ≡ Ok tt) × ((n m : ℕ) → m ≤ n → n ≤ N → Alike (get_or x (idx n m) nan) (get_or dq' (idx n m) nan))
   mirror_derives by =
       let top = (passed north).tables.top in
       let each = dp_mirror (from 0 a nan) (from 0 b nan) t u in
@@ -189,7 +188,7 @@ module _ (N : ℕ) (t u : Float) {a b p dp p' dp' q dq q' dq' : List Float} (nor
 
 -- ---- twice
 -- a table that is mirrored twice is what it was, zeros with their signs
-pub mirror_twice : (shift N : ℕ) {table x y : List Float} → Mirror shift N table Done x → Mirror shift N x Done y → y ≡ table
+pub mirror_twice : (shift N : ℕ) {table x y : List Float} → Mirror shift N table (Ok tt) x → Mirror shift N x (Ok tt) y → y ≡ table
 unfolding mirrored mirrored_row cells
 mirror_twice shift N {table} {x} by again =
     let whole = (mirror_passed N (length table) by.answers).whole in

@@ -9,7 +9,7 @@ ghost use Rattle.storage.specs.Triangle.{table_size, along};
 ghost use Rattle.legendre.specs.Checks.{mirror_check};
 ghost use Rattle.legendre.specs.Mirrored.{mirrored_row, mirrored};
 
-use refusal::{Answer, Refusal};
+use refusal::Refusal;
 
 // Row n, from index `at` on: every other sign turns, those of the orders m for which n - m + shift is odd.
 fn mirror_row(n: usize, shift: usize, at: usize, table: &mut [f64])
@@ -18,10 +18,10 @@ fn mirror_row(n: usize, shift: usize, at: usize, table: &mut [f64])
     requires fact_3 { at + n < length table.old }
     ensures { Filled at (mirrored_row shift n (from at table.old nan)) (n + 1) table.old table.new }
 {
-    let mut m = (n + shift + 1) % 2;
-    while m <= n {
+    let first = (n + shift + 1) % 2;
+    for pair in 0..(n + 2 - first) / 2 {
+        let m = first + 2 * pair;
         table[at + m] = -table[at + m];
-        m = m + 2;
     }
 }
 
@@ -33,26 +33,24 @@ fn mirror_rows(nmax: usize, shift: usize, table: &mut [f64])
     ensures { Filled 0 (along (mirrored shift table.old)) (table_size nmax) table.old table.new }
 {
     let mut at = 0;
-    let mut n = 0;
-    while n <= nmax {
+    for n in 0..nmax + 1 {
         mirror_row(n, shift, at, table);
         at = at + n + 1;
-        n = n + 1;
     }
 }
 
 // The table, where its checks are passed: SIZE, and LENGTH of the one list, which is read too.
-pub(crate) fn mirror_by(nmax: usize, shift: usize, table: &mut [f64]) -> Answer
+pub(crate) fn mirror_by(nmax: usize, shift: usize, table: &mut [f64]) -> Result<(), Refusal>
     requires { shift ≤ 1 }
     ensures value { result ≡ mirror_check nmax (length table.old) }
     ensures table_after { table.new ≡ after result (fill 0 (along (mirrored shift table.old)) (table_size nmax) table.old) table.old }
 {
     if nmax > storage::MAX_DEGREE {
-        return Answer::Refused(Refusal::Size);
+        return Err(Refusal::Size);
     }
     if table.len() != storage::table_size(nmax) {
-        return Answer::Refused(Refusal::Length);
+        return Err(Refusal::Length);
     }
     mirror_rows(nmax, shift, table);
-    Answer::Done
+    Ok(())
 }

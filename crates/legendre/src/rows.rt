@@ -17,11 +17,9 @@ pub fn rescales(nmax: usize, u: f64, r: &mut [f64])
 {
     let count = nmax + 1;
     let mut rescale = 1.0 / 1e-280;
-    let mut m = 0;
-    while m < count {
+    for m in 0..count {
         r[m] = rescale;
         rescale = rescale * u;
-        m = m + 1;
     }
 }
 
@@ -53,11 +51,9 @@ pub fn sectorals(nmax: usize, d: &mut [f64])
 {
     let count = nmax + 1;
     let mut sectoral = 1e-280;
-    let mut m = 0;
-    while m < count {
+    for m in 0..count {
         d[m] = sectoral;
-        m = m + 1;
-        sectoral = next_sectoral(m, sectoral);
+        sectoral = next_sectoral(m + 1, sectoral);
     }
 }
 
@@ -93,10 +89,8 @@ pub fn next_row(
         return;
     }
     let last = n - 1;
-    let mut m = 0;
-    while m < last {
+    for m in 0..last {
         older[m] = a[at + m] * t * newer[m] - b[at + m] * older[m];
-        m = m + 1;
     }
     older[last] = second(a[at + last], b[at + last], t, newer[last]);
     older[n] = pmm;
@@ -110,10 +104,8 @@ pub fn scale_row(n: usize, at: usize, q: &[f64], r: &[f64], p: &mut [f64])
     ensures { Filled at (scaled_row q.now r.now) (n + 1) p.old p.new }
 {
     let count = n + 1;
-    let mut m = 0;
-    while m < count {
+    for m in 0..count {
         p[at + m] = q[m] * r[m];
-        m = m + 1;
     }
 }
 
@@ -166,20 +158,18 @@ fn all_rows(
 {
     let mut pmm = 1e-280;
     let mut at = 0;
-    let mut n = 0;
-    while n < nmax {
+    for pair in 0..(nmax + 1) / 2 {
+        let n = 2 * pair;
         row(n, at, t, pmm, a, b, r, odd, even, p);
         let at_odd = at + n + 1;
         let pmm_odd = next_sectoral(n + 1, pmm);
         row(n + 1, at_odd, t, pmm_odd, a, b, r, even, odd, p);
         at = at_odd + n + 2;
         pmm = next_sectoral(n + 2, pmm_odd);
-        n = n + 2;
     }
-    if n > nmax {
-        return;
+    if nmax % 2 == 0 {
+        row(nmax, at, t, pmm, a, b, r, odd, even, p);
     }
-    row(n, at, t, pmm, a, b, r, odd, even, p);
 }
 
 // The powers of u, then all rows of P.

@@ -33,13 +33,11 @@ fn add_terms(
         s.old s.new }
 {
     let count = n + 1;
-    let mut m = 0;
-    while m < count {
+    for m in 0..count {
         let p = q[m] * r[m];
         let f = weight * p;
         c[at + m] = c[at + m] + f * sums[m + m];
         s[at + m] = s[at + m] + f * sums[m + m + 1];
-        m = m + 1;
     }
 }
 
@@ -110,8 +108,8 @@ pub fn add_degrees(
         (table_size nmax) s.old s.new }
 {
     let mut at = 0;
-    let mut n = 0;
-    while n < nmax {
+    for pair in 0..(nmax + 1) / 2 {
+        let n = 2 * pair;
         add_degree(n, at, t, weight, a, b, sectorals, r, sums, odd, even, c, s);
         let at_odd = at + n + 1;
         add_degree(
@@ -130,10 +128,10 @@ pub fn add_degrees(
             s,
         );
         at = at_odd + n + 2;
-        n = n + 2;
     }
-    if n > nmax {
-        return;
+    if nmax % 2 == 0 {
+        add_degree(
+            nmax, at, t, weight, a, b, sectorals, r, sums, odd, even, c, s,
+        );
     }
-    add_degree(n, at, t, weight, a, b, sectorals, r, sums, odd, even, c, s);
 }

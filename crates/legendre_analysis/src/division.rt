@@ -15,10 +15,8 @@ fn quotients(n: usize, at: usize, factor: f64, c: &mut [f64])
     ensures { Filled at (quotient_row factor at c.old) (n + 1) c.old c.new }
 {
     let count = n + 1;
-    let mut m = 0;
-    while m < count {
+    for m in 0..count {
         c[at + m] = c[at + m] / factor;
-        m = m + 1;
     }
 }
 
@@ -43,11 +41,9 @@ fn divide_degrees(nmax: usize, factors: &[f64], c: &mut [f64])
         c.old c.new }
 {
     let mut at = 0;
-    let mut n = 0;
-    while n <= nmax {
+    for n in 0..nmax + 1 {
         divide_degree(n, at, factors[n], c);
         at = at + n + 1;
-        n = n + 1;
     }
 }
 

@@ -1,19 +1,16 @@
 -- A call that is lent lists of just the lengths that are told for it passes its checks of their lengths, with every functional. The lengths stand in the order
 -- in which they are told, which is the order of the call's list parameters. Assumes nothing.
-use Rattle.std.specs.Prelude.{◌≡◌, false, List, [], ◌∷◌, ◌++◌, ℕ, ◌+◌, ◌*◌, ◌≤◌, min, ltb, drop, Float, ℤ, pos}
+use Rattle.std.specs.Prelude.{◌≡◌, false, List, [], ◌∷◌, ◌++◌, ℕ, ◌+◌, ◌*◌, ◌≤◌, min, ltb, drop, Float, ℤ, pos, Ok, Result, ⊤}
 use Rattle.std.proofs.Math.Path.{refl, sym, ap}
 use Rattle.std.proofs.Common.{◌∙◌, arith, nltb→le}
 use Rattle.std.proofs.Math.Nat.{min-le_right}
 use Rattle.std.proofs.Math.ListN.{length}
 use Rattle.std.proofs.lemmas.Bool.{lt-leb}
-use Rattle.refusal.specs.Numbers.{after, refuse_no}
-use Rattle.refusal.specs.declared.Answer.{Answer}
-use Rattle.refusal.specs.declared.Answer.TheVariants.{Done}
-use Rattle.refusal.specs.declared.Number.TheVariants.{Value}
+use Rattle.refusal.specs.Numbers.{after, refuse_no, both, done_then, outcome}
 use Rattle.refusal.specs.declared.Refusal.TheVariants.{Space, Love}
 use Rattle.storage.specs.Answers.{size_of, size_is, place_of}
-use Rattle.storage.specs.Checks.{past, both, done_then, tables_check, tables_done, space_done, room_check, room_space, outputs_check}
-use Rattle.storage.specs.Checks.{entry_answer, entry_at, value_at, place_check}
+use Rattle.storage.specs.Checks.{past, tables_check, tables_done, space_done, room_check, room_space, outputs_check}
+use Rattle.storage.specs.Checks.{entry_answer, entry_at, value_at}
 use Rattle.storage.specs.Store.{store, store_front}
 use Rattle.storage.specs.Triangle.{table_size}
 use Rattle.functional.specs.declared.Functional.{Functional}
@@ -37,20 +34,21 @@ use Rattle.lengths.specs.Lengths.{degree_size, tables_lengths, factor_lengths, t
 use Rattle.lengths.specs.Lengths.{variances_lengths, amplitudes_lengths, write_lengths}
 use Rattle.lengths.specs.Lengths.{point_lengths, partials_lengths, second_lengths}
 use Rattle.lengths.specs.Lengths.{analysis_lengths}
+use Rattle.refusal.specs.declared.Refusal.{Refusal}
 
 -- ---- what a call that is done has told
 -- sizes within the limits
-pub told_sizes : (sizes : Answer) (told : List ℕ) (room : ℕ) → Done ≡ lengths_check sizes told room → Done ≡ sizes
+pub told_sizes : (sizes : Result ⊤ Refusal) (told : List ℕ) (room : ℕ) → Ok tt ≡ lengths_check sizes told room → Ok tt ≡ sizes
 unfolding lengths_check
 told_sizes sizes told room h = (both sizes _ h).0
 
 -- and the lengths, at the front of the list
-pub told_front : (sizes : Answer) (told old : List ℕ) → Done ≡ lengths_check sizes told (length old)
+pub told_front : (sizes : Result ⊤ Refusal) (told old : List ℕ) → Ok tt ≡ lengths_check sizes told (length old)
     → lengths_after sizes told old ≡ told ++ drop (length told) old
 unfolding lengths_after lengths_check
 told_front sizes told old h =
     let room = (past (ltb (length old) (length told)) Space _ (both sizes _ h).1).0 in
-    ap (λ (a : Answer). after a (store 0 told old) old) (sym h) ∙ store_front told old (nltb→le (length old) (length told) room)
+    ap (λ (a : Result ⊤ Refusal). after a (store 0 told old) old) (sym h) ∙ store_front told old (nltb→le (length old) (length told) room)
 
 -- a Love number for each degree is enough for every functional
 pub love_enough : (f : Functional) (N : ℕ) → lacks_love f (N + 1) N ≡ false
@@ -65,16 +63,16 @@ pub love_told : (f : Functional) (love N : ℕ) → love ≡ N + 1 → lacks_lov
 love_told f love N e = ap (λ (k : ℕ). lacks_love f k N) e ∙ love_enough f N
 
 -- ---- models and tables
-module _ (N : ℕ) (ok : Done ≡ degree_size N) where
+module _ (N : ℕ) (ok : Ok tt ≡ degree_size N) where
   top : N ≤ 2700
   top = within 2700 N ok
 
   -- both tables of a call
-  pub two_tables : {c s : ℕ} → c ≡ table_size N → s ≡ table_size N → Done ≡ tables_check N c s
+  pub two_tables : {c s : ℕ} → c ≡ table_size N → s ≡ table_size N → Ok tt ≡ tables_check N c s
   two_tables {c} {s} p q = tables_done N c s top p q
 
   -- `zeros`, `legendre_new`, `legendre_grow`
-  pub zeros_enough : (c s : ℕ) → c ∷ s ∷ [] ≡ tables_lengths 2 N → Done ≡ room_check N c s
+  pub zeros_enough : (c s : ℕ) → c ∷ s ∷ [] ≡ tables_lengths 2 N → Ok tt ≡ room_check N c s
   unfolding tables_lengths
   zeros_enough c s e =
       let p : c ≡ table_size N = cc in
@@ -87,12 +85,12 @@ module _ (N : ℕ) (ok : Done ≡ degree_size N) where
   entry_enough table n m e = let p : length table ≡ table_size N = cc in entry_at N table n m top p refl
 
   -- `legendre_mirror`, `legendre_mirror_derivative`
-  pub mirror_enough : (table : ℕ) → table ∷ [] ≡ tables_lengths 1 N → Done ≡ mirror_check N table
+  pub mirror_enough : (table : ℕ) → table ∷ [] ≡ tables_lengths 1 N → Ok tt ≡ mirror_check N table
   unfolding tables_lengths
   mirror_enough table e = let p : table ≡ table_size N = cc in mirror_done N table top p
 
   -- `set`: a place outside the tables is still refused
-  pub set_enough : (c s n m : ℕ) → c ∷ s ∷ [] ≡ tables_lengths 2 N → place_check (place_of N n m) ≡ set_check N c s n m
+  pub set_enough : (c s n m : ℕ) → c ∷ s ∷ [] ≡ tables_lengths 2 N → outcome (place_of N n m) ≡ set_check N c s n m
   unfolding tables_lengths set_check
   set_enough c s n m e =
       let p : c ≡ table_size N = cc in
@@ -100,7 +98,7 @@ module _ (N : ℕ) (ok : Done ≡ degree_size N) where
       done_then (two_tables p q) refl
 
   -- `truncated`
-  pub truncated_enough : (cut c s outc outs : ℕ) → c ∷ s ∷ outc ∷ outs ∷ [] ≡ truncated_lengths N cut → Done ≡ outputs_check N c s (min cut N) outc outs
+  pub truncated_enough : (cut c s outc outs : ℕ) → c ∷ s ∷ outc ∷ outs ∷ [] ≡ truncated_lengths N cut → Ok tt ≡ outputs_check N c s (min cut N) outc outs
   unfolding truncated_lengths outputs_check
   truncated_enough cut c s outc outs e =
       let p : c ≡ table_size N = cc in
@@ -111,7 +109,7 @@ module _ (N : ℕ) (ok : Done ≡ degree_size N) where
       done_then (two_tables p q) (space_done (size_of (min cut N)) outc outs (omega arith) (omega arith))
 
   -- `rescaled`, `legendre_compute_with_derivative`
-  pub rescaled_enough : (c s outc outs : ℕ) → c ∷ s ∷ outc ∷ outs ∷ [] ≡ tables_lengths 4 N → Done ≡ outputs_check N c s N outc outs
+  pub rescaled_enough : (c s outc outs : ℕ) → c ∷ s ∷ outc ∷ outs ∷ [] ≡ tables_lengths 4 N → Ok tt ≡ outputs_check N c s N outc outs
   unfolding tables_lengths outputs_check
   rescaled_enough c s outc outs e =
       let p : c ≡ table_size N = cc in
@@ -122,7 +120,7 @@ module _ (N : ℕ) (ok : Done ≡ degree_size N) where
       done_then (two_tables p q) (space_done (size_of N) outc outs (omega arith) (omega arith))
 
   -- `legendre_compute`
-  pub compute_enough : (a b p : ℕ) → a ∷ b ∷ p ∷ [] ≡ tables_lengths 3 N → Done ≡ compute_check N a b p
+  pub compute_enough : (a b p : ℕ) → a ∷ b ∷ p ∷ [] ≡ tables_lengths 3 N → Ok tt ≡ compute_check N a b p
   unfolding tables_lengths
   compute_enough a b p e =
       let u : a ≡ table_size N = cc in
@@ -131,17 +129,17 @@ module _ (N : ℕ) (ok : Done ≡ degree_size N) where
       compute_done N a b p (two_tables u v) (omega arith)
 
   -- `degree_variances`
-  pub variances_enough : (c s out : ℕ) → c ∷ s ∷ out ∷ [] ≡ variances_lengths N → Done ≡ variances_check N c s out
+  pub variances_enough : (c s out : ℕ) → c ∷ s ∷ out ∷ [] ≡ variances_lengths N → Ok tt ≡ variances_check N c s out
   unfolding variances_lengths variances_check
   variances_enough c s out e =
       let p : c ≡ table_size N = cc in
       let q : s ≡ table_size N = cc in
       let o : out ≡ N + 1 = cc in
-      done_then (two_tables p q) (sym (refuse_no Space Done (lt-leb out N (omega arith))))
+      done_then (two_tables p q) (sym (refuse_no Space (Ok tt) (lt-leb out N (omega arith))))
 
   -- `degree_amplitudes`
   pub amplitudes_enough : (f : Functional) (c s love out : ℕ) → c ∷ s ∷ love ∷ out ∷ [] ≡ amplitudes_lengths N
-      → Done ≡ amplitudes_check N c s f love out
+      → Ok tt ≡ amplitudes_check N c s f love out
   unfolding amplitudes_lengths amplitudes_check
   amplitudes_enough f c s love out e =
       let p : c ≡ table_size N = cc in
@@ -149,10 +147,10 @@ module _ (N : ℕ) (ok : Done ≡ degree_size N) where
       let l : love ≡ N + 1 = cc in
       let o : out ≡ N + 1 = cc in
       done_then (two_tables p q)
-      (sym (refuse_no Love _ (love_told f love N l) ∙ refuse_no Space Done (lt-leb out N (omega arith))))
+      (sym (refuse_no Love _ (love_told f love N l) ∙ refuse_no Space (Ok tt) (lt-leb out N (omega arith))))
 
   -- `model_write`
-  pub write_enough : (dated : ℕ) (days : ℤ) (c s out : ℕ) → c ∷ s ∷ out ∷ [] ≡ write_lengths N dated → Done ≡ write_answer (date_of dated days) N c s out
+  pub write_enough : (dated : ℕ) (days : ℤ) (c s out : ℕ) → c ∷ s ∷ out ∷ [] ≡ write_lengths N dated → Ok tt ≡ write_answer (date_of dated days) N c s out
   unfolding write_lengths
   write_enough dated days c s out e =
       let p : c ≡ table_size N = cc in
@@ -176,13 +174,13 @@ module _ (N : ℕ) (ok : Done ≡ degree_size N) where
 
   -- `factor`
   pub factor_enough : (f : Functional) (love : List Float) (gm radius r : Float) → length love ∷ [] ≡ factor_lengths N
-      → Value (factor_of f love gm radius r N) ≡ factor_answer f love N gm radius r
+      → Ok (factor_of f love gm radius r N) ≡ factor_answer f love N gm radius r
   unfolding factor_lengths
   factor_enough f love gm radius r e = let l : length love ≡ N + 1 = cc in factor-value f love N gm radius r top (love_told f (length love) N l) refl
 
   -- a call for one point
   point_enough : (k numbers c s trig work out : ℕ) → c ∷ s ∷ trig ∷ work ∷ out ∷ [] ≡ point_lengths k numbers N
-      → (Done ≡ point_check_of k N c s trig work) × (out ≡ numbers)
+      → (Ok tt ≡ point_check_of k N c s trig work) × (out ≡ numbers)
   unfolding point_lengths
   point_enough k numbers c s trig work out e =
       let p : c ≡ table_size N = cc in
@@ -193,18 +191,18 @@ module _ (N : ℕ) (ok : Done ≡ degree_size N) where
 
   -- `partials`
   pub partials_enough : (c s trig work out : ℕ) → c ∷ s ∷ trig ∷ work ∷ out ∷ [] ≡ partials_lengths N
-      → (Done ≡ partials_check N c s trig work) × (out ≡ 4)
+      → (Ok tt ≡ partials_check N c s trig work) × (out ≡ 4)
   partials_enough = point_enough 4 4
 
   -- `second_partials`
   pub second_enough : (c s trig work out : ℕ) → c ∷ s ∷ trig ∷ work ∷ out ∷ [] ≡ second_lengths N
-      → (Done ≡ second_check N c s trig work) × (out ≡ 10)
+      → (Ok tt ≡ second_check N c s trig work) × (out ≡ 10)
   second_enough = point_enough 5 10
 
   -- `analysis`
   pub analysis_enough : (f : Functional) (love values weights lats trig work c s : ℕ)
       → love ∷ values ∷ weights ∷ lats ∷ trig ∷ work ∷ c ∷ s ∷ [] ≡ analysis_lengths N
-      → Done ≡ analysis_check N values weights lats trig (lacks_love f love N) work c s
+      → Ok tt ≡ analysis_check N values weights lats trig (lacks_love f love N) work c s
   unfolding analysis_lengths
   analysis_enough f love values weights lats trig work c s e =
       let g : love ≡ N + 1 = cc in

@@ -1,8 +1,6 @@
 -- The same as Enough for outlines and the kernels of basins, whatever the outline and the colatitude are. Assumes nothing.
-use Rattle.std.specs.Prelude.{◌≡◌, List, [], ◌∷◌, ℕ, ◌+◌, ◌*◌, ◌/◌, length, Float}
+use Rattle.std.specs.Prelude.{◌≡◌, List, [], ◌∷◌, ℕ, ◌+◌, ◌*◌, ◌/◌, length, Float, Ok}
 use Rattle.std.proofs.Common.{◌∙◌, arith}
-use Rattle.refusal.specs.declared.Answer.TheVariants.{Done}
-use Rattle.storage.specs.Checks.{both}
 use Rattle.storage.specs.Triangle.{table_size}
 use Rattle.region_nodes.specs.Regions.{integrals}
 use Rattle.regions.specs.CheckLaws.{nodes_done}
@@ -15,10 +13,11 @@ use Rattle.basin_kernel.specs.Kernel.{kernel_check}
 use Rattle.basin_kernel.specs.CheckLaws.{kernel_done}
 use Rattle.lengths.specs.Told.{size_check, within}
 use Rattle.lengths.specs.Lengths.{degree_size, intervals_lengths, breaks_lengths, kernel_sizes, kernel_lengths}
+use Rattle.refusal.specs.Numbers.{both}
 
 -- `polygon_intervals`
-pub intervals_enough : (v : ℕ) (outline : List Float) (θ : Float) (work out : ℕ) → Done ≡ size_check 4096 v
-    → length outline ∷ work ∷ out ∷ [] ≡ intervals_lengths v → Done ≡ outline_check v (length outline) work out (length (intervals_of v outline θ))
+pub intervals_enough : (v : ℕ) (outline : List Float) (θ : Float) (work out : ℕ) → Ok tt ≡ size_check 4096 v
+    → length outline ∷ work ∷ out ∷ [] ≡ intervals_lengths v → Ok tt ≡ outline_check v (length outline) work out (length (intervals_of v outline θ))
 unfolding intervals_lengths
 intervals_enough v outline θ work out ok e =
     let pairs : length outline ≡ v + v = cc in
@@ -31,8 +30,8 @@ intervals_enough v outline θ work out ok e =
     (vertices_done v (length outline) work (within 4096 v ok) pairs (omega arith))
 
 -- `polygon_breaks`
-pub breaks_enough : (v : ℕ) (outline : List Float) (work out : ℕ) → Done ≡ size_check 4096 v → length outline ∷ work ∷ out ∷ [] ≡ breaks_lengths v
-    → Done ≡ outline_check v (length outline) work out (length (breaks_of v outline))
+pub breaks_enough : (v : ℕ) (outline : List Float) (work out : ℕ) → Ok tt ≡ size_check 4096 v → length outline ∷ work ∷ out ∷ [] ≡ breaks_lengths v
+    → Ok tt ≡ outline_check v (length outline) work out (length (breaks_of v outline))
 unfolding breaks_lengths
 breaks_enough v outline work out ok e =
     let pairs : length outline ≡ v + v = cc in
@@ -44,8 +43,8 @@ breaks_enough v outline work out ok e =
     (vertices_done v (length outline) work (within 4096 v ok) pairs (omega arith))
 
 -- `basin_kernel`
-pub kernel_enough : (L nodes weights lats marks s c work kc ks : ℕ) → Done ≡ kernel_sizes L nodes
-    → weights ∷ lats ∷ marks ∷ s ∷ c ∷ work ∷ kc ∷ ks ∷ [] ≡ kernel_lengths L nodes → Done ≡ kernel_check L nodes weights lats marks s c work kc ks
+pub kernel_enough : (L nodes weights lats marks s c work kc ks : ℕ) → Ok tt ≡ kernel_sizes L nodes
+    → weights ∷ lats ∷ marks ∷ s ∷ c ∷ work ∷ kc ∷ ks ∷ [] ≡ kernel_lengths L nodes → Ok tt ≡ kernel_check L nodes weights lats marks s c work kc ks
 unfolding kernel_lengths integrals
 kernel_enough L nodes weights lats marks s c work kc ks ok e =
     let (top, few) = both (degree_size L) (size_check 65535 nodes) ok in

@@ -1,9 +1,7 @@
 -- The same as Enough for calls that take other sizes than one degree up to 2700: many points, grids, kernels, Gauss rules, matrices, caps and regions.
 -- Assumes nothing.
-use Rattle.std.specs.Prelude.{◌≡◌, [], ◌∷◌, ℕ, ◌+◌, ◌*◌, min}
+use Rattle.std.specs.Prelude.{◌≡◌, [], ◌∷◌, ℕ, ◌+◌, ◌*◌, min, Ok}
 use Rattle.std.proofs.Common.{arith}
-use Rattle.refusal.specs.declared.Answer.TheVariants.{Done}
-use Rattle.storage.specs.Checks.{both}
 use Rattle.storage.specs.Triangle.{table_size}
 use Rattle.functional.specs.declared.Functional.{Functional}
 use Rattle.functional.specs.Factor.{lacks_love}
@@ -31,11 +29,12 @@ use Rattle.lengths.specs.Lengths.{gauss_lengths, grid_lengths}
 use Rattle.lengths.specs.Lengths.{average_lengths, points_lengths, along_lengths, second_along_lengths}
 use Rattle.lengths.specs.Lengths.{eigen_lengths, cap_lengths, region_sizes, matrix_lengths, region_lengths}
 use Rattle.lengths.specs.Enough.{love_told, two_tables}
+use Rattle.refusal.specs.Numbers.{both}
 
 -- a call for many points
-points_enough : (k numbers N points c s radii lats trig work out : ℕ) → Done ≡ along_sizes N points
+points_enough : (k numbers N points c s radii lats trig work out : ℕ) → Ok tt ≡ along_sizes N points
     → c ∷ s ∷ radii ∷ lats ∷ trig ∷ work ∷ out ∷ [] ≡ points_lengths k numbers N points
-    → Done ≡ along_check_of k numbers N c s points radii lats trig work out
+    → Ok tt ≡ along_check_of k numbers N c s points radii lats trig work out
 unfolding points_lengths
 points_enough k numbers N points c s radii lats trig work out ok e =
     let (few, d) = both (size_check 65535 points) _ ok in
@@ -49,19 +48,19 @@ points_enough k numbers N points c s radii lats trig work out ok e =
     many_passed k numbers N c s points radii lats trig work out (within 65535 points few) (two_tables N d p q) i l t (omega arith) (omega arith)
 
 -- `partials_along`
-pub along_enough : (N points c s radii lats trig work out : ℕ) → Done ≡ along_sizes N points
-    → c ∷ s ∷ radii ∷ lats ∷ trig ∷ work ∷ out ∷ [] ≡ along_lengths N points → Done ≡ along_check N c s points radii lats trig work out
+pub along_enough : (N points c s radii lats trig work out : ℕ) → Ok tt ≡ along_sizes N points
+    → c ∷ s ∷ radii ∷ lats ∷ trig ∷ work ∷ out ∷ [] ≡ along_lengths N points → Ok tt ≡ along_check N c s points radii lats trig work out
 along_enough = points_enough 4 4
 
 -- `second_partials_along`
-pub second_along_enough : (N points c s radii lats trig work out : ℕ) → Done ≡ along_sizes N points
-    → c ∷ s ∷ radii ∷ lats ∷ trig ∷ work ∷ out ∷ [] ≡ second_along_lengths N points → Done ≡ second_along_check N c s points radii lats trig work out
+pub second_along_enough : (N points c s radii lats trig work out : ℕ) → Ok tt ≡ along_sizes N points
+    → c ∷ s ∷ radii ∷ lats ∷ trig ∷ work ∷ out ∷ [] ≡ second_along_lengths N points → Ok tt ≡ second_along_check N c s points radii lats trig work out
 second_along_enough = points_enough 5 10
 
 -- `grid`
-pub grid_enough : (f : Functional) (N rows longitudes c s love lats trig work out : ℕ) → Done ≡ grid_sizes N rows longitudes
+pub grid_enough : (f : Functional) (N rows longitudes c s love lats trig work out : ℕ) → Ok tt ≡ grid_sizes N rows longitudes
     → c ∷ s ∷ love ∷ lats ∷ trig ∷ work ∷ out ∷ [] ≡ grid_lengths N rows longitudes
-    → Done ≡ grid_check N c s rows lats longitudes trig (lacks_love f love N) work out
+    → Ok tt ≡ grid_check N c s rows lats longitudes trig (lacks_love f love N) work out
 unfolding grid_lengths
 grid_enough f N rows longitudes c s love lats trig work out ok e =
     let (r, few) = both (size_check 65535 rows) _ ok in
@@ -77,8 +76,8 @@ grid_enough f N rows longitudes c s love lats trig work out ok e =
     (two_tables N d p q) l t (love_told f love N g) (omega arith) (omega arith)
 
 -- `basin_average`
-pub average_enough : (f : Functional) (N K c s kc ks love : ℕ) → Done ≡ two_degrees N K → c ∷ s ∷ kc ∷ ks ∷ love ∷ [] ≡ average_lengths N K
-    → Done ≡ average_check N c s K kc ks (lacks_love f love (min N K))
+pub average_enough : (f : Functional) (N K c s kc ks love : ℕ) → Ok tt ≡ two_degrees N K → c ∷ s ∷ kc ∷ ks ∷ love ∷ [] ≡ average_lengths N K
+    → Ok tt ≡ average_check N c s K kc ks (lacks_love f love (min N K))
 unfolding average_lengths
 average_enough f N K c s kc ks love ok e =
     let (k, d) = both (degree_size K) _ ok in
@@ -90,7 +89,7 @@ average_enough f N K c s kc ks love ok e =
     check_done N c s K kc ks (lacks_love f love (min N K)) (within 2700 K k) (two_tables N d p q) (two_tables K k u v) (love_told f love (min N K) g)
 
 -- `gauss_legendre`
-pub gauss_enough : (n guesses x w : ℕ) → Done ≡ size_check 2701 n → guesses ∷ x ∷ w ∷ [] ≡ gauss_lengths n → Done ≡ gauss_check n guesses x w
+pub gauss_enough : (n guesses x w : ℕ) → Ok tt ≡ size_check 2701 n → guesses ∷ x ∷ w ∷ [] ≡ gauss_lengths n → Ok tt ≡ gauss_check n guesses x w
 unfolding gauss_lengths
 gauss_enough n guesses x w ok e =
     let g : guesses ≡ guess_count n = cc in
@@ -99,8 +98,8 @@ gauss_enough n guesses x w ok e =
     gauss_done n guesses x w (within 2701 n ok) g (omega arith) (omega arith)
 
 -- `symmetric_eigen`, `householder_ql`
-pub eigen_enough : (n a work values vectors : ℕ) → Done ≡ size_check 512 n → a ∷ work ∷ values ∷ vectors ∷ [] ≡ eigen_lengths n
-    → Done ≡ eigen_check n a work values vectors
+pub eigen_enough : (n a work values vectors : ℕ) → Ok tt ≡ size_check 512 n → a ∷ work ∷ values ∷ vectors ∷ [] ≡ eigen_lengths n
+    → Ok tt ≡ eigen_check n a work values vectors
 unfolding eigen_lengths
 eigen_enough n a work values vectors ok e =
     let p : a ≡ n * n = cc in
@@ -110,9 +109,9 @@ eigen_enough n a work values vectors ok e =
     matrices.all_passed n a work values vectors (within 512 n ok) p (omega arith) (omega arith) (omega arith)
 
 -- `polar_cap`
-pub cap_enough : (L weights lats work orders concentrations vectors settled : ℕ) → Done ≡ size_check 180 L
+pub cap_enough : (L weights lats work orders concentrations vectors settled : ℕ) → Ok tt ≡ size_check 180 L
     → weights ∷ lats ∷ work ∷ orders ∷ concentrations ∷ vectors ∷ settled ∷ [] ≡ cap_lengths L
-    → Done ≡ cap_check L weights lats work orders concentrations vectors settled
+    → Ok tt ≡ cap_check L weights lats work orders concentrations vectors settled
 unfolding cap_lengths
 cap_enough L weights lats work orders concentrations vectors settled ok e =
     let p : weights ≡ L + 1 = cc in
@@ -126,9 +125,9 @@ cap_enough L weights lats work orders concentrations vectors settled ok e =
     (omega arith) (omega arith)
 
 -- `concentration_matrix`
-pub matrix_enough : (L nodes weights lats marks s c work matrix : ℕ) → Done ≡ region_sizes L nodes
+pub matrix_enough : (L nodes weights lats marks s c work matrix : ℕ) → Ok tt ≡ region_sizes L nodes
     → weights ∷ lats ∷ marks ∷ s ∷ c ∷ work ∷ matrix ∷ [] ≡ matrix_lengths L nodes
-    → Done ≡ matrix_check L nodes weights lats marks s c work matrix
+    → Ok tt ≡ matrix_check L nodes weights lats marks s c work matrix
 unfolding matrix_lengths integrals
 matrix_enough L nodes weights lats marks s c work matrix ok e =
     let (top, few) = both (size_check 21 L) (size_check 65535 nodes) ok in
@@ -143,9 +142,9 @@ matrix_enough L nodes weights lats marks s c work matrix ok e =
     matrix_done L nodes weights lats marks s c work matrix n (omega arith) (omega arith)
 
 -- `region`
-pub region_enough : (L nodes weights lats marks s c work concentrations cs ss : ℕ) → Done ≡ region_sizes L nodes
+pub region_enough : (L nodes weights lats marks s c work concentrations cs ss : ℕ) → Ok tt ≡ region_sizes L nodes
     → weights ∷ lats ∷ marks ∷ s ∷ c ∷ work ∷ concentrations ∷ cs ∷ ss ∷ [] ≡ region_lengths L nodes
-    → Done ≡ region_check L nodes weights lats marks s c work concentrations cs ss
+    → Ok tt ≡ region_check L nodes weights lats marks s c work concentrations cs ss
 unfolding region_lengths integrals
 region_enough L nodes weights lats marks s c work concentrations cs ss ok e =
     let (top, few) = both (size_check 21 L) (size_check 65535 nodes) ok in

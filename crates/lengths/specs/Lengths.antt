@@ -1,17 +1,11 @@
 -- How long the lists of each call must be, in the order of its list parameters, and the sizes that it takes. A list `love` has what water heights
 -- need; other functionals read none. Assumes nothing.
-use Rattle.std.specs.Prelude.{◌≡◌, refl, List, [], ◌∷◌, ℕ, zero, suc, ◌+◌, ◌*◌, ◌/◌, ◌≤◌, min, take, pos}
+use Rattle.std.specs.Prelude.{◌≡◌, refl, List, [], ◌∷◌, ℕ, zero, suc, ◌+◌, ◌*◌, ◌/◌, ◌≤◌, min, take, pos, Err, Ok, Option, Result, ℤ, ⊤}
 use Rattle.std.proofs.Common.{arith}
-use Rattle.refusal.specs.declared.Answer.{Answer}
-use Rattle.refusal.specs.declared.Answer.TheVariants.{Done}
-use Rattle.refusal.specs.declared.Answer.TheVariants.{Refused as Stopped}
-use Rattle.storage.specs.Checks.{◌and_then◌}
 use Rattle.storage.specs.Triangle.{table_size}
 use Rattle.coefficients.specs.Model.{date_of}
-use Rattle.coefficients.specs.declared.Date.{Date}
+use Rattle.model_file.specs.declared.FileHead.{FileHead}
 use Rattle.model_file.specs.Format.{head_size, file_size}
-use Rattle.model_file.specs.declared.Reading.{Reading}
-use Rattle.model_file.specs.declared.Reading.TheVariants.{Model, Refused}
 use Rattle.quadrature.specs.Gauss.{guess_count}
 use Rattle.synthesis.specs.Grid.{work_size}
 use Rattle.analysis.specs.Analysis.{points_of}
@@ -20,24 +14,21 @@ use Rattle.region_nodes.specs.Basis.{basis_size}
 use Rattle.region_nodes.specs.Regions.{integrals}
 use Rattle.region.specs.Region.{region_work}
 use Rattle.lengths.specs.Told.{size_check}
+use Rattle.refusal.specs.declared.Refusal.{Refusal}
+use Rattle.refusal.specs.Numbers.{◌and_then◌}
 
 -- ---- the sizes, in the order in which the call checks them
-abbrev pub degree_size : ℕ → Answer
+abbrev pub degree_size : ℕ → Result ⊤ Refusal
 degree_size N = size_check 2700 N
 
-abbrev pub two_degrees : ℕ → ℕ → Answer
+abbrev pub two_degrees : ℕ → ℕ → Result ⊤ Refusal
 two_degrees N K = size_check 2700 K and_then size_check 2700 N
 
-abbrev pub grid_sizes : (N rows longitudes : ℕ) → Answer
+abbrev pub grid_sizes : (N rows longitudes : ℕ) → Result ⊤ Refusal
 grid_sizes N rows longitudes = size_check 65535 rows and_then size_check 65535 longitudes and_then size_check 2700 N
 
-abbrev pub along_sizes : (N points : ℕ) → Answer
+abbrev pub along_sizes : (N points : ℕ) → Result ⊤ Refusal
 along_sizes N points = size_check 65535 points and_then size_check 2700 N
-
--- a file is refused by its head before its lists are looked at
-abbrev pub read_sizes : Reading → Answer
-read_sizes (Model h) = Done
-read_sizes (Refused e) = Stopped e
 
 -- ---- models and tables
 -- so many tables up to degree N: `zeros`, `coefficient_c`, `coefficient_s`, `set`, `rescaled` and the calls of legendre
@@ -62,12 +53,12 @@ unfoldable pub amplitudes_lengths : ℕ → List ℕ
 amplitudes_lengths N = table_size N ∷ table_size N ∷ (N + 1) ∷ (N + 1) ∷ []
 
 -- the bytes of a file, c, s, and the six words of the head
-unfoldable pub file_lengths : Date → ℕ → List ℕ
+unfoldable pub file_lengths : Option ℤ → ℕ → List ℕ
 file_lengths date N = file_size date N ∷ table_size N ∷ table_size N ∷ 6 ∷ []
 
-abbrev pub read_lengths : Reading → List ℕ
-read_lengths (Model h) = file_lengths h.date h.nmax
-read_lengths (Refused e) = []
+abbrev pub read_lengths : Result FileHead Refusal → List ℕ
+read_lengths (Ok h) = file_lengths h.date h.nmax
+read_lengths (Err e) = []
 
 -- c, s, and the bytes
 unfoldable pub write_lengths : (N dated : ℕ) → List ℕ
@@ -136,7 +127,7 @@ cap_lengths L = (L + 1) ∷ (L + 1 + (L + 1)) ∷ cap_work L ∷ table_size L �
 
 -- ---- regions
 -- SIZE of the degree and of the nodes
-abbrev pub region_sizes : (L nodes : ℕ) → Answer
+abbrev pub region_sizes : (L nodes : ℕ) → Result ⊤ Refusal
 region_sizes L nodes = size_check 21 L and_then size_check 65535 nodes
 
 -- weights, latitudes, marks, s, c, work, matrix
@@ -160,7 +151,7 @@ unfoldable pub breaks_lengths : ℕ → List ℕ
 breaks_lengths v = (v + v) ∷ v ∷ v ∷ []
 
 -- SIZE of the degree and of the nodes
-abbrev pub kernel_sizes : (L nodes : ℕ) → Answer
+abbrev pub kernel_sizes : (L nodes : ℕ) → Result ⊤ Refusal
 kernel_sizes L nodes = degree_size L and_then size_check 65535 nodes
 
 -- weights, latitudes, marks, s, c, work, kc, ks
@@ -180,12 +171,12 @@ tables_told N (suc (suc (suc (suc zero)))) h e = cc
 tables_told N (suc (suc (suc (suc (suc k))))) h e = absurd (omega arith)
 
 -- the lists of a file
-pub file_told : {size start : ℕ} (date : Date) (N : ℕ) → size ≡ table_size N → start ≡ head_size date
+pub file_told : {size start : ℕ} (date : Option ℤ) (N : ℕ) → size ≡ table_size N → start ≡ head_size date
     → (start + 17 * size + 1) ∷ size ∷ size ∷ 6 ∷ [] ≡ file_lengths date N
 unfolding file_lengths
 file_told date N e z = rw (e, z) refl
 
-pub write_told : {size start : ℕ} {date : Date} (N dated : ℕ) → size ≡ table_size N → date ≡ date_of dated (pos 0) → start ≡ head_size date
+pub write_told : {size start : ℕ} {date : Option ℤ} (N dated : ℕ) → size ≡ table_size N → date ≡ date_of dated (pos 0) → start ≡ head_size date
     → size ∷ size ∷ (start + 17 * size + 1) ∷ [] ≡ write_lengths N dated
 unfolding write_lengths
 write_told N dated e d z = rw (e, z, d) refl

@@ -1,10 +1,9 @@
 // What the calls are made of.
-ghost use Rattle.std.specs.Prelude.{◌≡◌, ◌*◌, ◌≤◌};
-ghost use Rattle.refusal.specs.declared.Answer.TheVariants.{Done};
+ghost use Rattle.std.specs.Prelude.{◌≡◌, ◌*◌, ◌≤◌, Ok};
 ghost use Rattle.lengths.specs.Told.{size_check, Told, Entries};
 ghost use Rattle.lengths.specs.Lengths.{degree_size, along_sizes, tables_lengths, point_lengths, points_lengths, one_length, eigen_lengths};
 
-use refusal::{Answer, Refusal};
+use refusal::Refusal;
 
 // The entries of a table up to degree nmax.
 pub fn entries(nmax: usize) -> usize
@@ -25,27 +24,25 @@ pub fn product(a: usize, b: usize) -> usize
 }
 
 // Stores the lengths at the front of a list; SPACE where it has not room for them.
-pub fn tell(told: &[usize], lengths: &mut [usize]) -> Answer
-    ensures { Told Done told.now result lengths.old lengths.new }
+pub fn tell(told: &[usize], lengths: &mut [usize]) -> Result<(), Refusal>
+    ensures { Told (Ok tt) told.now result lengths.old lengths.new }
 {
     if lengths.len() < told.len() {
-        return Answer::Refused(Refusal::Space);
+        return Err(Refusal::Space);
     }
-    let mut i = 0;
-    while i < told.len() {
+    for i in 0..told.len() {
         lengths[i] = told[i];
-        i = i + 1;
     }
-    Answer::Done
+    Ok(())
 }
 
 // Tells the lengths of `count` tables, four at most.
-pub fn tables(count: usize, nmax: usize, lengths: &mut [usize]) -> Answer
+pub fn tables(count: usize, nmax: usize, lengths: &mut [usize]) -> Result<(), Refusal>
     requires { count ≤ 4 }
     ensures { Told (degree_size nmax) (tables_lengths count nmax) result lengths.old lengths.new }
 {
     if nmax > storage::MAX_DEGREE {
-        return Answer::Refused(Refusal::Size);
+        return Err(Refusal::Size);
     }
     let size = entries(nmax);
     let told = [size, size, size, size];
@@ -53,12 +50,17 @@ pub fn tables(count: usize, nmax: usize, lengths: &mut [usize]) -> Answer
 }
 
 // Tells the lengths of the lists of a call for one point: so many tables of the working list, and so many numbers of the output.
-pub fn point(tables: usize, numbers: usize, nmax: usize, lengths: &mut [usize]) -> Answer
+pub fn point(
+    tables: usize,
+    numbers: usize,
+    nmax: usize,
+    lengths: &mut [usize],
+) -> Result<(), Refusal>
     requires { tables ≤ 5 }
     ensures { Told (degree_size nmax) (point_lengths tables numbers nmax) result lengths.old lengths.new }
 {
     if nmax > storage::MAX_DEGREE {
-        return Answer::Refused(Refusal::Size);
+        return Err(Refusal::Size);
     }
     let size = entries(nmax);
     let told = [size, size, nmax + nmax + 2, tables * size, numbers];
@@ -72,16 +74,16 @@ pub fn points(
     nmax: usize,
     points: usize,
     lengths: &mut [usize],
-) -> Answer
+) -> Result<(), Refusal>
     requires fact_1 { tables ≤ 5 }
     requires fact_2 { numbers ≤ 10 }
     ensures { Told (along_sizes nmax points) (points_lengths tables numbers nmax points) result lengths.old lengths.new }
 {
     if points > point_lists::MAX_POINTS {
-        return Answer::Refused(Refusal::Size);
+        return Err(Refusal::Size);
     }
     if nmax > storage::MAX_DEGREE {
-        return Answer::Refused(Refusal::Size);
+        return Err(Refusal::Size);
     }
     let size = entries(nmax);
     let trig = product(points, nmax + nmax + 2);
@@ -98,19 +100,19 @@ pub fn points(
 }
 
 // Tells the length of the one list of a call that takes no size.
-pub fn one(numbers: usize, lengths: &mut [usize]) -> Answer
-    ensures { Told Done (one_length numbers) result lengths.old lengths.new }
+pub fn one(numbers: usize, lengths: &mut [usize]) -> Result<(), Refusal>
+    ensures { Told (Ok tt) (one_length numbers) result lengths.old lengths.new }
 {
     let told = [numbers];
     tell(&told, lengths)
 }
 
 // Tells the lengths of the lists of the two eigenvalue calls.
-pub fn matrices(n: usize, lengths: &mut [usize]) -> Answer
+pub fn matrices(n: usize, lengths: &mut [usize]) -> Result<(), Refusal>
     ensures { Told (size_check 512 n) (eigen_lengths n) result lengths.old lengths.new }
 {
     if n > linalg::MAX_ROWS {
-        return Answer::Refused(Refusal::Size);
+        return Err(Refusal::Size);
     }
     let size = product(n, n);
     let told = [size, size + 4 * n, n, size];

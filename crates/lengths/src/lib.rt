@@ -4,33 +4,32 @@
 
 mod leaves;
 
-ghost use Rattle.std.specs.Prelude.{◌≡◌, length};
-ghost use Rattle.refusal.specs.declared.Answer.TheVariants.{Done};
+ghost use Rattle.std.specs.Prelude.{◌≡◌, length, Ok};
 ghost use Rattle.model_file.specs.Format.{head_of};
 ghost use Rattle.lengths.specs.Told.{size_check, lengths_check, lengths_after};
-ghost use Rattle.lengths.specs.Lengths.{degree_size, two_degrees, grid_sizes, along_sizes, read_sizes, tables_lengths, factor_lengths, truncated_lengths};
+ghost use Rattle.lengths.specs.Lengths.{degree_size, two_degrees, grid_sizes, along_sizes, tables_lengths, factor_lengths, truncated_lengths};
 ghost use Rattle.lengths.specs.Lengths.{variances_lengths, amplitudes_lengths, read_lengths, write_lengths, gauss_lengths, grid_lengths, average_lengths};
 ghost use Rattle.lengths.specs.Lengths.{partials_lengths, along_lengths, three_lengths, second_lengths, second_along_lengths, nine_lengths};
 ghost use Rattle.lengths.specs.Lengths.{analysis_lengths, eigen_lengths, cap_lengths, region_sizes, matrix_lengths, region_lengths};
 ghost use Rattle.lengths.specs.Lengths.{intervals_lengths, breaks_lengths, kernel_sizes, kernel_lengths};
+ghost use Rattle.refusal.specs.Numbers.{outcome};
 
-use model_file::Reading;
-use refusal::{Answer, Refusal};
+use refusal::Refusal;
 
 // `factor`: love.
-pub fn factor(n: usize, lengths: &mut [usize]) -> Answer
+pub fn factor(n: usize, lengths: &mut [usize]) -> Result<(), Refusal>
     ensures value { result ≡ lengths_check (degree_size n) (factor_lengths n) (length lengths.old) }
     ensures lengths_after { lengths.new ≡ lengths_after (degree_size n) (factor_lengths n) lengths.old }
 {
     if n > storage::MAX_DEGREE {
-        return Answer::Refused(Refusal::Size);
+        return Err(Refusal::Size);
     }
     let told = [n + 1];
     leaves::tell(&told, lengths)
 }
 
 // `zeros`: c, s.
-pub fn zeros(nmax: usize, lengths: &mut [usize]) -> Answer
+pub fn zeros(nmax: usize, lengths: &mut [usize]) -> Result<(), Refusal>
     ensures value { result ≡ lengths_check (degree_size nmax) (tables_lengths 2 nmax) (length lengths.old) }
     ensures lengths_after { lengths.new ≡ lengths_after (degree_size nmax) (tables_lengths 2 nmax) lengths.old }
 {
@@ -38,7 +37,7 @@ pub fn zeros(nmax: usize, lengths: &mut [usize]) -> Answer
 }
 
 // `coefficient_c`: c.
-pub fn coefficient_c(nmax: usize, lengths: &mut [usize]) -> Answer
+pub fn coefficient_c(nmax: usize, lengths: &mut [usize]) -> Result<(), Refusal>
     ensures value { result ≡ lengths_check (degree_size nmax) (tables_lengths 1 nmax) (length lengths.old) }
     ensures lengths_after { lengths.new ≡ lengths_after (degree_size nmax) (tables_lengths 1 nmax) lengths.old }
 {
@@ -46,7 +45,7 @@ pub fn coefficient_c(nmax: usize, lengths: &mut [usize]) -> Answer
 }
 
 // `coefficient_s`: s.
-pub fn coefficient_s(nmax: usize, lengths: &mut [usize]) -> Answer
+pub fn coefficient_s(nmax: usize, lengths: &mut [usize]) -> Result<(), Refusal>
     ensures value { result ≡ lengths_check (degree_size nmax) (tables_lengths 1 nmax) (length lengths.old) }
     ensures lengths_after { lengths.new ≡ lengths_after (degree_size nmax) (tables_lengths 1 nmax) lengths.old }
 {
@@ -54,7 +53,7 @@ pub fn coefficient_s(nmax: usize, lengths: &mut [usize]) -> Answer
 }
 
 // `set`: c, s.
-pub fn set(nmax: usize, lengths: &mut [usize]) -> Answer
+pub fn set(nmax: usize, lengths: &mut [usize]) -> Result<(), Refusal>
     ensures value { result ≡ lengths_check (degree_size nmax) (tables_lengths 2 nmax) (length lengths.old) }
     ensures lengths_after { lengths.new ≡ lengths_after (degree_size nmax) (tables_lengths 2 nmax) lengths.old }
 {
@@ -62,12 +61,12 @@ pub fn set(nmax: usize, lengths: &mut [usize]) -> Answer
 }
 
 // `truncated`: c, s, and the two tables up to the cut.
-pub fn truncated(nmax: usize, cut: usize, lengths: &mut [usize]) -> Answer
+pub fn truncated(nmax: usize, cut: usize, lengths: &mut [usize]) -> Result<(), Refusal>
     ensures value { result ≡ lengths_check (degree_size nmax) (truncated_lengths nmax cut) (length lengths.old) }
     ensures lengths_after { lengths.new ≡ lengths_after (degree_size nmax) (truncated_lengths nmax cut) lengths.old }
 {
     if nmax > storage::MAX_DEGREE {
-        return Answer::Refused(Refusal::Size);
+        return Err(Refusal::Size);
     }
     let size = leaves::entries(nmax);
     let below = leaves::entries(storage::smaller(cut, nmax));
@@ -76,7 +75,7 @@ pub fn truncated(nmax: usize, cut: usize, lengths: &mut [usize]) -> Answer
 }
 
 // `rescaled`: c, s, and the two new tables.
-pub fn rescaled(nmax: usize, lengths: &mut [usize]) -> Answer
+pub fn rescaled(nmax: usize, lengths: &mut [usize]) -> Result<(), Refusal>
     ensures value { result ≡ lengths_check (degree_size nmax) (tables_lengths 4 nmax) (length lengths.old) }
     ensures lengths_after { lengths.new ≡ lengths_after (degree_size nmax) (tables_lengths 4 nmax) lengths.old }
 {
@@ -84,12 +83,12 @@ pub fn rescaled(nmax: usize, lengths: &mut [usize]) -> Answer
 }
 
 // `degree_variances`: c, s, out.
-pub fn degree_variances(nmax: usize, lengths: &mut [usize]) -> Answer
+pub fn degree_variances(nmax: usize, lengths: &mut [usize]) -> Result<(), Refusal>
     ensures value { result ≡ lengths_check (degree_size nmax) (variances_lengths nmax) (length lengths.old) }
     ensures lengths_after { lengths.new ≡ lengths_after (degree_size nmax) (variances_lengths nmax) lengths.old }
 {
     if nmax > storage::MAX_DEGREE {
-        return Answer::Refused(Refusal::Size);
+        return Err(Refusal::Size);
     }
     let size = leaves::entries(nmax);
     let told = [size, size, nmax + 1];
@@ -97,12 +96,12 @@ pub fn degree_variances(nmax: usize, lengths: &mut [usize]) -> Answer
 }
 
 // `degree_amplitudes`: c, s, love, out.
-pub fn degree_amplitudes(nmax: usize, lengths: &mut [usize]) -> Answer
+pub fn degree_amplitudes(nmax: usize, lengths: &mut [usize]) -> Result<(), Refusal>
     ensures value { result ≡ lengths_check (degree_size nmax) (amplitudes_lengths nmax) (length lengths.old) }
     ensures lengths_after { lengths.new ≡ lengths_after (degree_size nmax) (amplitudes_lengths nmax) lengths.old }
 {
     if nmax > storage::MAX_DEGREE {
-        return Answer::Refused(Refusal::Size);
+        return Err(Refusal::Size);
     }
     let size = leaves::entries(nmax);
     let told = [size, size, nmax + 1, nmax + 1];
@@ -110,41 +109,37 @@ pub fn degree_amplitudes(nmax: usize, lengths: &mut [usize]) -> Answer
 }
 
 // `model_read`: the bytes of a file, c, s, and the six words of its head. Only the head is looked at, the first 20 bytes, 24 with a date.
-pub fn model_read(bytes: &[u8], lengths: &mut [usize]) -> Answer
-    ensures value { result ≡ lengths_check (read_sizes (head_of bytes.now)) (read_lengths (head_of bytes.now))
+pub fn model_read(bytes: &[u8], lengths: &mut [usize]) -> Result<(), Refusal>
+    ensures value { result ≡ lengths_check (outcome (head_of bytes.now)) (read_lengths (head_of bytes.now))
         (length lengths.old) }
-    ensures lengths_after { lengths.new ≡ lengths_after (read_sizes (head_of bytes.now)) (read_lengths (head_of bytes.now))
+    ensures lengths_after { lengths.new ≡ lengths_after (outcome (head_of bytes.now)) (read_lengths (head_of bytes.now))
         lengths.old }
 {
-    match model_file::head(bytes) {
-        Reading::Refused(e) => Answer::Refused(e),
-        Reading::Model(h) => {
-            let nmax = h.nmax;
-            let date = h.date;
-            let size = leaves::entries(nmax);
-            let start = model_file::head_size(date);
-            let told = [start + 17 * size + 1, size, size, 6];
-            leaves::tell(&told, lengths)
-        }
-    }
+    let h = model_file::head(bytes)?;
+    let nmax = h.nmax;
+    let date = h.date;
+    let size = leaves::entries(nmax);
+    let start = model_file::head_size(date);
+    let told = [start + 17 * size + 1, size, size, 6];
+    leaves::tell(&told, lengths)
 }
 
 // `model_write`: c, s, and the bytes. Whether there is a date counts, by `dated`, and not which.
-pub fn model_write(nmax: usize, dated: u32, lengths: &mut [usize]) -> Answer
+pub fn model_write(nmax: usize, dated: u32, lengths: &mut [usize]) -> Result<(), Refusal>
     ensures value { result ≡ lengths_check (degree_size nmax) (write_lengths nmax dated) (length lengths.old) }
     ensures lengths_after { lengths.new ≡ lengths_after (degree_size nmax) (write_lengths nmax dated) lengths.old }
 {
     if nmax > storage::MAX_DEGREE {
-        return Answer::Refused(Refusal::Size);
+        return Err(Refusal::Size);
     }
     let size = leaves::entries(nmax);
-    let start = model_file::head_size(coefficients::date_of(dated, 0));
+    let start = model_file::head_size((dated != 0).then_some(0));
     let told = [size, size, start + 17 * size + 1];
     leaves::tell(&told, lengths)
 }
 
 // `legendre_new`: a, b.
-pub fn legendre_new(nmax: usize, lengths: &mut [usize]) -> Answer
+pub fn legendre_new(nmax: usize, lengths: &mut [usize]) -> Result<(), Refusal>
     ensures value { result ≡ lengths_check (degree_size nmax) (tables_lengths 2 nmax) (length lengths.old) }
     ensures lengths_after { lengths.new ≡ lengths_after (degree_size nmax) (tables_lengths 2 nmax) lengths.old }
 {
@@ -152,7 +147,7 @@ pub fn legendre_new(nmax: usize, lengths: &mut [usize]) -> Answer
 }
 
 // `legendre_grow`: a, b.
-pub fn legendre_grow(nmax: usize, lengths: &mut [usize]) -> Answer
+pub fn legendre_grow(nmax: usize, lengths: &mut [usize]) -> Result<(), Refusal>
     ensures value { result ≡ lengths_check (degree_size nmax) (tables_lengths 2 nmax) (length lengths.old) }
     ensures lengths_after { lengths.new ≡ lengths_after (degree_size nmax) (tables_lengths 2 nmax) lengths.old }
 {
@@ -160,7 +155,7 @@ pub fn legendre_grow(nmax: usize, lengths: &mut [usize]) -> Answer
 }
 
 // `legendre_compute`: a, b, p.
-pub fn legendre_compute(nmax: usize, lengths: &mut [usize]) -> Answer
+pub fn legendre_compute(nmax: usize, lengths: &mut [usize]) -> Result<(), Refusal>
     ensures value { result ≡ lengths_check (degree_size nmax) (tables_lengths 3 nmax) (length lengths.old) }
     ensures lengths_after { lengths.new ≡ lengths_after (degree_size nmax) (tables_lengths 3 nmax) lengths.old }
 {
@@ -168,7 +163,7 @@ pub fn legendre_compute(nmax: usize, lengths: &mut [usize]) -> Answer
 }
 
 // `legendre_compute_with_derivative`: a, b, p, dp.
-pub fn legendre_compute_with_derivative(nmax: usize, lengths: &mut [usize]) -> Answer
+pub fn legendre_compute_with_derivative(nmax: usize, lengths: &mut [usize]) -> Result<(), Refusal>
     ensures value { result ≡ lengths_check (degree_size nmax) (tables_lengths 4 nmax) (length lengths.old) }
     ensures lengths_after { lengths.new ≡ lengths_after (degree_size nmax) (tables_lengths 4 nmax) lengths.old }
 {
@@ -176,7 +171,7 @@ pub fn legendre_compute_with_derivative(nmax: usize, lengths: &mut [usize]) -> A
 }
 
 // `legendre_mirror`: table.
-pub fn legendre_mirror(nmax: usize, lengths: &mut [usize]) -> Answer
+pub fn legendre_mirror(nmax: usize, lengths: &mut [usize]) -> Result<(), Refusal>
     ensures value { result ≡ lengths_check (degree_size nmax) (tables_lengths 1 nmax) (length lengths.old) }
     ensures lengths_after { lengths.new ≡ lengths_after (degree_size nmax) (tables_lengths 1 nmax) lengths.old }
 {
@@ -184,7 +179,7 @@ pub fn legendre_mirror(nmax: usize, lengths: &mut [usize]) -> Answer
 }
 
 // `legendre_mirror_derivative`: table.
-pub fn legendre_mirror_derivative(nmax: usize, lengths: &mut [usize]) -> Answer
+pub fn legendre_mirror_derivative(nmax: usize, lengths: &mut [usize]) -> Result<(), Refusal>
     ensures value { result ≡ lengths_check (degree_size nmax) (tables_lengths 1 nmax) (length lengths.old) }
     ensures lengths_after { lengths.new ≡ lengths_after (degree_size nmax) (tables_lengths 1 nmax) lengths.old }
 {
@@ -192,7 +187,7 @@ pub fn legendre_mirror_derivative(nmax: usize, lengths: &mut [usize]) -> Answer
 }
 
 // `legendre_entry`: the table.
-pub fn legendre_entry(nmax: usize, lengths: &mut [usize]) -> Answer
+pub fn legendre_entry(nmax: usize, lengths: &mut [usize]) -> Result<(), Refusal>
     ensures value { result ≡ lengths_check (degree_size nmax) (tables_lengths 1 nmax) (length lengths.old) }
     ensures lengths_after { lengths.new ≡ lengths_after (degree_size nmax) (tables_lengths 1 nmax) lengths.old }
 {
@@ -200,30 +195,35 @@ pub fn legendre_entry(nmax: usize, lengths: &mut [usize]) -> Answer
 }
 
 // `gauss_legendre`: guesses, x, w.
-pub fn gauss_legendre(n: usize, lengths: &mut [usize]) -> Answer
+pub fn gauss_legendre(n: usize, lengths: &mut [usize]) -> Result<(), Refusal>
     ensures value { result ≡ lengths_check (size_check 2701 n) (gauss_lengths n) (length lengths.old) }
     ensures lengths_after { lengths.new ≡ lengths_after (size_check 2701 n) (gauss_lengths n) lengths.old }
 {
     if n > quadrature::MAX_NODES {
-        return Answer::Refused(Refusal::Size);
+        return Err(Refusal::Size);
     }
     let told = [(n + 1) / 2, n, n];
     leaves::tell(&told, lengths)
 }
 
 // `grid`: c, s, love, latitudes, trig, work, out.
-pub fn grid(nmax: usize, rows: usize, longitudes: usize, lengths: &mut [usize]) -> Answer
+pub fn grid(
+    nmax: usize,
+    rows: usize,
+    longitudes: usize,
+    lengths: &mut [usize],
+) -> Result<(), Refusal>
     ensures value { result ≡ lengths_check (grid_sizes nmax rows longitudes) (grid_lengths nmax rows longitudes) (length lengths.old) }
     ensures lengths_after { lengths.new ≡ lengths_after (grid_sizes nmax rows longitudes) (grid_lengths nmax rows longitudes) lengths.old }
 {
     if rows > synthesis::MAX_LINES {
-        return Answer::Refused(Refusal::Size);
+        return Err(Refusal::Size);
     }
     if longitudes > synthesis::MAX_LINES {
-        return Answer::Refused(Refusal::Size);
+        return Err(Refusal::Size);
     }
     if nmax > storage::MAX_DEGREE {
-        return Answer::Refused(Refusal::Size);
+        return Err(Refusal::Size);
     }
     let size = leaves::entries(nmax);
     let trig = leaves::product(longitudes, nmax + nmax + 2);
@@ -234,15 +234,15 @@ pub fn grid(nmax: usize, rows: usize, longitudes: usize, lengths: &mut [usize]) 
 }
 
 // `basin_average`: c, s, the kernel's two tables, love.
-pub fn basin_average(nmax: usize, kmax: usize, lengths: &mut [usize]) -> Answer
+pub fn basin_average(nmax: usize, kmax: usize, lengths: &mut [usize]) -> Result<(), Refusal>
     ensures value { result ≡ lengths_check (two_degrees nmax kmax) (average_lengths nmax kmax) (length lengths.old) }
     ensures lengths_after { lengths.new ≡ lengths_after (two_degrees nmax kmax) (average_lengths nmax kmax) lengths.old }
 {
     if kmax > storage::MAX_DEGREE {
-        return Answer::Refused(Refusal::Size);
+        return Err(Refusal::Size);
     }
     if nmax > storage::MAX_DEGREE {
-        return Answer::Refused(Refusal::Size);
+        return Err(Refusal::Size);
     }
     let size = leaves::entries(nmax);
     let kernel = leaves::entries(kmax);
@@ -251,7 +251,7 @@ pub fn basin_average(nmax: usize, kmax: usize, lengths: &mut [usize]) -> Answer
 }
 
 // `partials`: c, s, trig, work, out.
-pub fn partials(nmax: usize, lengths: &mut [usize]) -> Answer
+pub fn partials(nmax: usize, lengths: &mut [usize]) -> Result<(), Refusal>
     ensures value { result ≡ lengths_check (degree_size nmax) (partials_lengths nmax) (length lengths.old) }
     ensures lengths_after { lengths.new ≡ lengths_after (degree_size nmax) (partials_lengths nmax) lengths.old }
 {
@@ -259,7 +259,7 @@ pub fn partials(nmax: usize, lengths: &mut [usize]) -> Answer
 }
 
 // `partials_along`: c, s, radii, latitudes, trig, work, out.
-pub fn partials_along(nmax: usize, points: usize, lengths: &mut [usize]) -> Answer
+pub fn partials_along(nmax: usize, points: usize, lengths: &mut [usize]) -> Result<(), Refusal>
     ensures value { result ≡ lengths_check (along_sizes nmax points) (along_lengths nmax points) (length lengths.old) }
     ensures lengths_after { lengths.new ≡ lengths_after (along_sizes nmax points) (along_lengths nmax points) lengths.old }
 {
@@ -267,23 +267,23 @@ pub fn partials_along(nmax: usize, points: usize, lengths: &mut [usize]) -> Answ
 }
 
 // `acceleration_neu`: out.
-pub fn acceleration_neu(lengths: &mut [usize]) -> Answer
-    ensures value { result ≡ lengths_check Done three_lengths (length lengths.old) }
-    ensures lengths_after { lengths.new ≡ lengths_after Done three_lengths lengths.old }
+pub fn acceleration_neu(lengths: &mut [usize]) -> Result<(), Refusal>
+    ensures value { result ≡ lengths_check (Ok tt) three_lengths (length lengths.old) }
+    ensures lengths_after { lengths.new ≡ lengths_after (Ok tt) three_lengths lengths.old }
 {
     leaves::one(3, lengths)
 }
 
 // `gravity_neu`: out.
-pub fn gravity_neu(lengths: &mut [usize]) -> Answer
-    ensures value { result ≡ lengths_check Done three_lengths (length lengths.old) }
-    ensures lengths_after { lengths.new ≡ lengths_after Done three_lengths lengths.old }
+pub fn gravity_neu(lengths: &mut [usize]) -> Result<(), Refusal>
+    ensures value { result ≡ lengths_check (Ok tt) three_lengths (length lengths.old) }
+    ensures lengths_after { lengths.new ≡ lengths_after (Ok tt) three_lengths lengths.old }
 {
     leaves::one(3, lengths)
 }
 
 // `second_partials`: c, s, trig, work, out.
-pub fn second_partials(nmax: usize, lengths: &mut [usize]) -> Answer
+pub fn second_partials(nmax: usize, lengths: &mut [usize]) -> Result<(), Refusal>
     ensures value { result ≡ lengths_check (degree_size nmax) (second_lengths nmax) (length lengths.old) }
     ensures lengths_after { lengths.new ≡ lengths_after (degree_size nmax) (second_lengths nmax) lengths.old }
 {
@@ -291,7 +291,11 @@ pub fn second_partials(nmax: usize, lengths: &mut [usize]) -> Answer
 }
 
 // `second_partials_along`: c, s, radii, latitudes, trig, work, out.
-pub fn second_partials_along(nmax: usize, points: usize, lengths: &mut [usize]) -> Answer
+pub fn second_partials_along(
+    nmax: usize,
+    points: usize,
+    lengths: &mut [usize],
+) -> Result<(), Refusal>
     ensures value { result ≡ lengths_check (along_sizes nmax points) (second_along_lengths nmax points) (length lengths.old) }
     ensures lengths_after { lengths.new ≡ lengths_after (along_sizes nmax points) (second_along_lengths nmax points) lengths.old }
 {
@@ -299,20 +303,20 @@ pub fn second_partials_along(nmax: usize, points: usize, lengths: &mut [usize]) 
 }
 
 // `tensor_neu`: out.
-pub fn tensor_neu(lengths: &mut [usize]) -> Answer
-    ensures value { result ≡ lengths_check Done nine_lengths (length lengths.old) }
-    ensures lengths_after { lengths.new ≡ lengths_after Done nine_lengths lengths.old }
+pub fn tensor_neu(lengths: &mut [usize]) -> Result<(), Refusal>
+    ensures value { result ≡ lengths_check (Ok tt) nine_lengths (length lengths.old) }
+    ensures lengths_after { lengths.new ≡ lengths_after (Ok tt) nine_lengths lengths.old }
 {
     leaves::one(9, lengths)
 }
 
 // `analysis`: love, values, weights, latitudes, trig, work, c, s.
-pub fn analysis(nmax: usize, lengths: &mut [usize]) -> Answer
+pub fn analysis(nmax: usize, lengths: &mut [usize]) -> Result<(), Refusal>
     ensures value { result ≡ lengths_check (degree_size nmax) (analysis_lengths nmax) (length lengths.old) }
     ensures lengths_after { lengths.new ≡ lengths_after (degree_size nmax) (analysis_lengths nmax) lengths.old }
 {
     if nmax > storage::MAX_DEGREE {
-        return Answer::Refused(Refusal::Size);
+        return Err(Refusal::Size);
     }
     let size = leaves::entries(nmax);
     let rows = nmax + 1;
@@ -331,7 +335,7 @@ pub fn analysis(nmax: usize, lengths: &mut [usize]) -> Answer
 }
 
 // `symmetric_eigen`: a, work, values, vectors.
-pub fn symmetric_eigen(n: usize, lengths: &mut [usize]) -> Answer
+pub fn symmetric_eigen(n: usize, lengths: &mut [usize]) -> Result<(), Refusal>
     ensures value { result ≡ lengths_check (size_check 512 n) (eigen_lengths n) (length lengths.old) }
     ensures lengths_after { lengths.new ≡ lengths_after (size_check 512 n) (eigen_lengths n) lengths.old }
 {
@@ -339,7 +343,7 @@ pub fn symmetric_eigen(n: usize, lengths: &mut [usize]) -> Answer
 }
 
 // `householder_ql`: a, work, values, vectors.
-pub fn householder_ql(n: usize, lengths: &mut [usize]) -> Answer
+pub fn householder_ql(n: usize, lengths: &mut [usize]) -> Result<(), Refusal>
     ensures value { result ≡ lengths_check (size_check 512 n) (eigen_lengths n) (length lengths.old) }
     ensures lengths_after { lengths.new ≡ lengths_after (size_check 512 n) (eigen_lengths n) lengths.old }
 {
@@ -347,12 +351,12 @@ pub fn householder_ql(n: usize, lengths: &mut [usize]) -> Answer
 }
 
 // `polar_cap`: weights, latitudes, work, orders, concentrations, vectors, settled.
-pub fn polar_cap(lmax: usize, lengths: &mut [usize]) -> Answer
+pub fn polar_cap(lmax: usize, lengths: &mut [usize]) -> Result<(), Refusal>
     ensures value { result ≡ lengths_check (size_check 180 lmax) (cap_lengths lmax) (length lengths.old) }
     ensures lengths_after { lengths.new ≡ lengths_after (size_check 180 lmax) (cap_lengths lmax) lengths.old }
 {
     if lmax > polar_cap::MAX_CAP {
-        return Answer::Refused(Refusal::Size);
+        return Err(Refusal::Size);
     }
     let count = lmax + 1;
     let sizes = polar_cap::cap_sizes(lmax);
@@ -369,15 +373,15 @@ pub fn polar_cap(lmax: usize, lengths: &mut [usize]) -> Answer
 }
 
 // `concentration_matrix`: weights, latitudes, marks, s, c, work, matrix.
-pub fn concentration_matrix(lmax: usize, nodes: usize, lengths: &mut [usize]) -> Answer
+pub fn concentration_matrix(lmax: usize, nodes: usize, lengths: &mut [usize]) -> Result<(), Refusal>
     ensures value { result ≡ lengths_check (region_sizes lmax nodes) (matrix_lengths lmax nodes) (length lengths.old) }
     ensures lengths_after { lengths.new ≡ lengths_after (region_sizes lmax nodes) (matrix_lengths lmax nodes) lengths.old }
 {
     if lmax > regions::MAX_REGION {
-        return Answer::Refused(Refusal::Size);
+        return Err(Refusal::Size);
     }
     if nodes > regions::MAX_REGION_NODES {
-        return Answer::Refused(Refusal::Size);
+        return Err(Refusal::Size);
     }
     let sizes = region::region_sizes(lmax);
     let integrals = leaves::product(nodes, lmax + lmax + 1);
@@ -395,15 +399,15 @@ pub fn concentration_matrix(lmax: usize, nodes: usize, lengths: &mut [usize]) ->
 }
 
 // `region`: weights, latitudes, marks, s, c, work, concentrations, cs, ss.
-pub fn region(lmax: usize, nodes: usize, lengths: &mut [usize]) -> Answer
+pub fn region(lmax: usize, nodes: usize, lengths: &mut [usize]) -> Result<(), Refusal>
     ensures value { result ≡ lengths_check (region_sizes lmax nodes) (region_lengths lmax nodes) (length lengths.old) }
     ensures lengths_after { lengths.new ≡ lengths_after (region_sizes lmax nodes) (region_lengths lmax nodes) lengths.old }
 {
     if lmax > regions::MAX_REGION {
-        return Answer::Refused(Refusal::Size);
+        return Err(Refusal::Size);
     }
     if nodes > regions::MAX_REGION_NODES {
-        return Answer::Refused(Refusal::Size);
+        return Err(Refusal::Size);
     }
     let sizes = region::region_sizes(lmax);
     let integrals = leaves::product(nodes, lmax + lmax + 1);
@@ -422,39 +426,39 @@ pub fn region(lmax: usize, nodes: usize, lengths: &mut [usize]) -> Answer
 }
 
 // `intervals` of an outline: the outline, work, out. There is room for the intervals of every colatitude.
-pub fn polygon_intervals(vertices: usize, lengths: &mut [usize]) -> Answer
+pub fn polygon_intervals(vertices: usize, lengths: &mut [usize]) -> Result<(), Refusal>
     ensures value { result ≡ lengths_check (size_check 4096 vertices) (intervals_lengths vertices) (length lengths.old) }
     ensures lengths_after { lengths.new ≡ lengths_after (size_check 4096 vertices) (intervals_lengths vertices) lengths.old }
 {
     if vertices > polygon::MAX_VERTICES {
-        return Answer::Refused(Refusal::Size);
+        return Err(Refusal::Size);
     }
     let told = [vertices + vertices, vertices, vertices / 2 * 2];
     leaves::tell(&told, lengths)
 }
 
 // `breaks` of an outline: the outline, work, out.
-pub fn polygon_breaks(vertices: usize, lengths: &mut [usize]) -> Answer
+pub fn polygon_breaks(vertices: usize, lengths: &mut [usize]) -> Result<(), Refusal>
     ensures value { result ≡ lengths_check (size_check 4096 vertices) (breaks_lengths vertices) (length lengths.old) }
     ensures lengths_after { lengths.new ≡ lengths_after (size_check 4096 vertices) (breaks_lengths vertices) lengths.old }
 {
     if vertices > polygon::MAX_VERTICES {
-        return Answer::Refused(Refusal::Size);
+        return Err(Refusal::Size);
     }
     let told = [vertices + vertices, vertices, vertices];
     leaves::tell(&told, lengths)
 }
 
 // `basin_kernel`: weights, latitudes, marks, s, c, work, kc, ks.
-pub fn basin_kernel(lmax: usize, nodes: usize, lengths: &mut [usize]) -> Answer
+pub fn basin_kernel(lmax: usize, nodes: usize, lengths: &mut [usize]) -> Result<(), Refusal>
     ensures value { result ≡ lengths_check (kernel_sizes lmax nodes) (kernel_lengths lmax nodes) (length lengths.old) }
     ensures lengths_after { lengths.new ≡ lengths_after (kernel_sizes lmax nodes) (kernel_lengths lmax nodes) lengths.old }
 {
     if lmax > storage::MAX_DEGREE {
-        return Answer::Refused(Refusal::Size);
+        return Err(Refusal::Size);
     }
     if nodes > regions::MAX_REGION_NODES {
-        return Answer::Refused(Refusal::Size);
+        return Err(Refusal::Size);
     }
     let size = leaves::entries(lmax);
     let integrals = leaves::product(nodes, lmax + lmax + 1);

@@ -1,9 +1,8 @@
 -- The checks of the two calls: one law for each way through them, and what passed checks tell. Assumes nothing.
-use Rattle.std.specs.Prelude.{◌≡◌, not, ℕ, ◌+◌, ◌*◌, ◌≤◌, ◌<◌, ltb, eqb}
+use Rattle.std.specs.Prelude.{◌≡◌, not, ℕ, ◌+◌, ◌*◌, ◌≤◌, ◌<◌, ltb, eqb, Err, Ok}
 use Rattle.std.proofs.Math.Dec.{nltb→le}
 use borrow.Author.Tests.{lt-ltb, le-ltb, eq-eqb, ne_eqb}
 use Rattle.refusal.specs.Numbers.{refuse}
-use Rattle.refusal.specs.declared.Answer.TheVariants.{Done, Refused}
 use Rattle.refusal.specs.declared.Refusal.TheVariants.{Size, Length, Space}
 use Rattle.storage.specs.Checks.{past, same}
 use Rattle.linalg.specs.Eigen.{eigen_check}
@@ -17,7 +16,7 @@ pub record Accepted (n a work values vectors : ℕ) : Type 0 where
   pub room_vectors : n * n ≤ vectors
 
 module _ (n a work values vectors : ℕ) where
-  pub accepted : Done ≡ eigen_check n a work values vectors → Accepted n a work values vectors
+  pub accepted : Ok tt ≡ eigen_check n a work values vectors → Accepted n a work values vectors
   unfolding eigen_check
   accepted h =
       let (s, h1) = past (ltb 512 n) Size _ h in
@@ -34,32 +33,32 @@ module _ (n a work values vectors : ℕ) where
       }
 
   -- ---- the ways through them
-  pub too_large : 512 < n → Refused Size ≡ eigen_check n a work values vectors
+  pub too_large : 512 < n → Err Size ≡ eigen_check n a work values vectors
   unfolding eigen_check refuse
   too_large h = simp (lt-ltb 512 n h)
 
   module _ (s : n ≤ 512) where
-    pub not_square : (a ≡ n * n → ⊥) → Refused Length ≡ eigen_check n a work values vectors
+    pub not_square : (a ≡ n * n → ⊥) → Err Length ≡ eigen_check n a work values vectors
     unfolding eigen_check refuse
     not_square h = simp (le-ltb 512 n s, ne_eqb a (n * n) h)
 
     module _ (q : a ≡ n * n) where
-      pub short_work : work < n * n + 4 * n → Refused Space ≡ eigen_check n a work values vectors
+      pub short_work : work < n * n + 4 * n → Err Space ≡ eigen_check n a work values vectors
       unfolding eigen_check refuse
       short_work h = simp (le-ltb 512 n s, eq-eqb a (n * n) q, lt-ltb work (n * n + 4 * n) h)
 
       module _ (w : n * n + 4 * n ≤ work) where
-        pub short_values : values < n → Refused Space ≡ eigen_check n a work values vectors
+        pub short_values : values < n → Err Space ≡ eigen_check n a work values vectors
         unfolding eigen_check refuse
         short_values h = simp (le-ltb 512 n s, eq-eqb a (n * n) q, le-ltb work (n * n + 4 * n) w, lt-ltb values n h)
 
         module _ (d : n ≤ values) where
-          pub short_vectors : vectors < n * n → Refused Space ≡ eigen_check n a work values vectors
+          pub short_vectors : vectors < n * n → Err Space ≡ eigen_check n a work values vectors
           unfolding eigen_check refuse
           short_vectors h =
               simp (le-ltb 512 n s, eq-eqb a (n * n) q, le-ltb work (n * n + 4 * n) w, le-ltb values n d, lt-ltb vectors (n * n) h)
 
-          pub all_passed : n * n ≤ vectors → Done ≡ eigen_check n a work values vectors
+          pub all_passed : n * n ≤ vectors → Ok tt ≡ eigen_check n a work values vectors
           unfolding eigen_check refuse
           all_passed h =
               simp (le-ltb 512 n s, eq-eqb a (n * n) q, le-ltb work (n * n + 4 * n) w, le-ltb values n d, le-ltb vectors (n * n) h)

@@ -1,8 +1,6 @@
 -- Eigenvalues and eigenvectors of a symmetric matrix by the method that its size asks for, and the checks of the calls. Definitions only.
-use Rattle.std.specs.Prelude.{Bool, cond, not, List, ℕ, ◌+◌, ◌*◌, ltb, eqb, Float}
+use Rattle.std.specs.Prelude.{Bool, cond, not, List, ℕ, ◌+◌, ◌*◌, ltb, eqb, Float, Ok, Result, ⊤}
 use Rattle.refusal.specs.Numbers.{refuse}
-use Rattle.refusal.specs.declared.Answer.{Answer}
-use Rattle.refusal.specs.declared.Answer.TheVariants.{Done}
 use Rattle.refusal.specs.declared.Refusal.TheVariants.{Size, Length, Space}
 use Rattle.storage.specs.Tabulate.{tabulate}
 use Rattle.matrix.specs.Matrix.{diagonal}
@@ -11,6 +9,7 @@ use Rattle.householder.specs.Reduction.{Reduction, subdiagonal_cell}
 use Rattle.householder.specs.Reduction.{tridiagonal as reduction}
 use Rattle.ql.specs.Ql.{Tridiagonal, tridiagonal, State, state, iteration, settled_in, rounds_in}
 use Rattle.linalg.specs.declared.Convergence.{Convergence}
+use Rattle.refusal.specs.declared.Refusal.{Refusal}
 
 -- the n numbers below the diagonal, the last of them 0
 unfoldable pub subdiagonal : ℕ → List Float → List Float
@@ -69,8 +68,8 @@ unfoldable pub eigen_limit : ℕ → ℕ
 eigen_limit n = cond (ltb 32 n) (100 * n) 100
 
 -- SIZE: n above 512; LENGTH: a matrix that has not exactly n * n numbers; SPACE: too short a working list, or one of the two lists of the answer
-unfoldable pub eigen_check : ℕ → ℕ → ℕ → ℕ → ℕ → Answer
+unfoldable pub eigen_check : ℕ → ℕ → ℕ → ℕ → ℕ → Result ⊤ Refusal
 eigen_check n a work values vectors =
     refuse (ltb 512 n) Size
     (refuse (not (eqb a (n * n))) Length
-    (refuse (ltb work (n * n + 4 * n)) Space (refuse (ltb values n) Space (refuse (ltb vectors (n * n)) Space Done))))
+    (refuse (ltb work (n * n + 4 * n)) Space (refuse (ltb values n) Space (refuse (ltb vectors (n * n)) Space (Ok tt)))))

@@ -6,51 +6,27 @@ pub mod within;
 
 ghost use Rattle.std.specs.Prelude.{◌≡◌, ◌+◌, ◌*◌, ◌≤◌, length};
 ghost use Rattle.std.specs.Float.{nan};
-ghost use Rattle.refusal.specs.Numbers.{after, behind};
+ghost use Rattle.refusal.specs.Numbers.{after, behind, outcome, result_number, value_if};
 ghost use Rattle.storage.specs.Elements.{from};
 ghost use Rattle.storage.specs.Fill.{fill};
 ghost use Rattle.storage.specs.Filled.{Filled};
 ghost use Rattle.matrix.specs.Layout.{Kept};
 ghost use Rattle.linalg.specs.Eigen.{householder_values, householder_vectors, householder_convergence};
 ghost use Rattle.linalg.specs.Eigen.{eigen_values, eigen_vectors, eigen_convergence, eigen_limit, eigen_check};
-ghost use Rattle.linalg.specs.Solution.{settled_number, outcome, solution_number, solution_if, count_in};
+ghost use Rattle.linalg.specs.Solution.{count_in};
 
-use refusal::{Answer, Refusal};
+use refusal::Refusal;
 
 // The most rows of a matrix.
 pub const MAX_ROWS: usize = 512;
 
 // How a solver ended. Jacobi rotations settle where their test passes before one of the hundred sweeps, and the count is of sweeps done; the QL
 // iteration where each number meets its stopping test within its hundred rounds, and the count is of all rounds that went past the test, those that
-// broke off on a zero among them. That a solver settled says nothing of how near the answer is.
-#[derive(Clone, Copy)]
+// broke off on a zero among them. That a solver settled says nothing of how near the answer is. The count stands in either case, so this is no Option.
+#[derive(Clone, Copy, Debug, PartialEq, Eq)]
 pub struct Convergence {
     pub settled: bool,
     pub count: usize,
-}
-
-// What a solver answers.
-#[derive(Clone, Copy)]
-pub enum Solution {
-    Solved(Convergence),
-    Refused(Refusal),
-}
-
-// 1 where a solver settled, 0 where it did not.
-pub fn settled_number(settled: bool) -> u32
-    ensures { result ≡ settled_number settled }
-{
-    if settled { 1 } else { 0 }
-}
-
-// 0 where a solver answered, else the number of the refusal.
-pub fn solution_number(s: Solution) -> u32
-    ensures { result ≡ solution_number s }
-{
-    match s {
-        Solution::Solved(_) => 0,
-        Solution::Refused(e) => refusal::refusal_number(e),
-    }
 }
 
 // By Householder reduction and QL iteration. The iteration leaves the vectors column by column; they are turned to rows in the working list.
@@ -110,26 +86,32 @@ pub fn eigen(
 }
 
 // SIZE, LENGTH and SPACE, over the lengths of the lists.
-fn eigen_check(n: usize, a: usize, work: usize, values: usize, vectors: usize) -> Answer
+fn eigen_check(
+    n: usize,
+    a: usize,
+    work: usize,
+    values: usize,
+    vectors: usize,
+) -> Result<(), Refusal>
     ensures { result ≡ eigen_check n a work values vectors }
 {
     if n > MAX_ROWS {
-        return Answer::Refused(Refusal::Size);
+        return Err(Refusal::Size);
     }
     let size = n * n;
     if a != size {
-        return Answer::Refused(Refusal::Length);
+        return Err(Refusal::Length);
     }
     if work < size + 4 * n {
-        return Answer::Refused(Refusal::Space);
+        return Err(Refusal::Space);
     }
     if values < n {
-        return Answer::Refused(Refusal::Space);
+        return Err(Refusal::Space);
     }
     if vectors < size {
-        return Answer::Refused(Refusal::Space);
+        return Err(Refusal::Space);
     }
-    Answer::Done
+    Ok(())
 }
 
 // The eigenvalues of the n by n matrix a, and its eigenvectors as columns, at the front of the two lists. What stands in the first n² + 4n numbers of
@@ -140,8 +122,8 @@ pub fn symmetric_eigen(
     work: &mut [f64],
     values: &mut [f64],
     vectors: &mut [f64],
-) -> Solution
-    ensures value_1 { result ≡ solution_if (eigen_check n (length a.now) (length work.old) (length values.old)
+) -> Result<Convergence, Refusal>
+    ensures value_1 { result ≡ value_if (eigen_check n (length a.now) (length work.old) (length values.old)
         (length vectors.old)) (eigen_convergence n a.now) }
     ensures value_2 { count_in result ≤ eigen_limit n }
     ensures values_after { values.new
@@ -151,10 +133,8 @@ pub fn symmetric_eigen(
     ensures work_unchanged { behind (outcome result) (n * n + 4 * n) work.new ≡ behind (outcome result) (n * n + 4 * n) work.old }
     ensures work_len_unchanged { length work.new ≡ length work.old }
 {
-    match eigen_check(n, a.len(), work.len(), values.len(), vectors.len()) {
-        Answer::Refused(e) => Solution::Refused(e),
-        Answer::Done => Solution::Solved(eigen(n, a, work, values, vectors)),
-    }
+    eigen_check(n, a.len(), work.len(), values.len(), vectors.len())?;
+    Ok(eigen(n, a, work, values, vectors))
 }
 
 // The same by Householder reduction and QL iteration at every n, with a count of at most 100n (Golub & Van Loan, Matrix Computations, Algorithms 8.3.1
@@ -165,8 +145,8 @@ pub fn householder_ql(
     work: &mut [f64],
     values: &mut [f64],
     vectors: &mut [f64],
-) -> Solution
-    ensures value_1 { result ≡ solution_if (eigen_check n (length a.now) (length work.old) (length values.old)
+) -> Result<Convergence, Refusal>
+    ensures value_1 { result ≡ value_if (eigen_check n (length a.now) (length work.old) (length values.old)
         (length vectors.old)) (householder_convergence n a.now) }
     ensures value_2 { count_in result ≤ 100 * n }
     ensures values_after { values.new
@@ -176,8 +156,6 @@ pub fn householder_ql(
     ensures work_unchanged { behind (outcome result) (n * n + 4 * n) work.new ≡ behind (outcome result) (n * n + 4 * n) work.old }
     ensures work_len_unchanged { length work.new ≡ length work.old }
 {
-    match eigen_check(n, a.len(), work.len(), values.len(), vectors.len()) {
-        Answer::Refused(e) => Solution::Refused(e),
-        Answer::Done => Solution::Solved(reduce_and_iterate(n, a, work, values, vectors)),
-    }
+    eigen_check(n, a.len(), work.len(), values.len(), vectors.len())?;
+    Ok(reduce_and_iterate(n, a, work, values, vectors))
 }

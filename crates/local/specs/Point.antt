@@ -1,22 +1,18 @@
 -- The potential V of a field and its first partial derivatives at points, in the order of the Rust's operations, and the checks of the calls.
 -- Definitions only.
-use Rattle.std.specs.Prelude.{not, List, ℕ, zero, suc, ◌+◌, ◌*◌, ltb, eqb, get_or, Float}
+use Rattle.std.specs.Prelude.{not, List, ℕ, zero, suc, ◌+◌, ◌*◌, ltb, eqb, get_or, Float, Ok, Result, ⊤}
 use Rattle.std.specs.Float.{nan, binary64}
-use Rattle.refusal.specs.Numbers.{refuse, answer_number}
-use Rattle.refusal.specs.declared.Answer.{Answer}
-use Rattle.refusal.specs.declared.Answer.TheVariants.{Done}
-use Rattle.refusal.specs.declared.Answer.TheVariants.{Refused as NotDone}
+use Rattle.refusal.specs.Numbers.{refuse, ◌and_then◌}
 use Rattle.refusal.specs.declared.Refusal.TheVariants.{Size, Length, Space}
 use Rattle.number.specs.Float64.{◌⊕◌, ◌⊖◌, ◌⊗◌, ◌⊘◌, of_whole, one64}
-use Rattle.storage.specs.Checks.{◌and_then◌, tables_check}
+use Rattle.storage.specs.Checks.{tables_check}
 use Rattle.storage.specs.Triangle.{table_size, cells, along}
 use Rattle.recursion.specs.Recursion.{a_cell, b_cell, p_cell}
 use Rattle.derivative.specs.Derivative.{dp_cell}
 use Rattle.legendre.specs.Directions.{row_sine, row_cosine, cosines, sines}
 use Rattle.rounding.specs.Sums.{zero⁺, running_sum}
 use Rattle.local.specs.declared.Partials.{Partials}
-use Rattle.local.specs.declared.Point.{Point}
-use Rattle.local.specs.declared.Point.TheVariants.{At, Refused}
+use Rattle.refusal.specs.declared.Refusal.{Refusal}
 
 -- ---- one degree: its rows of P, or of the derivative of P by latitude, and of C and S as functions of the order m, with the cosine and the
 -- sine of mλ
@@ -77,19 +73,6 @@ point_at gm radius N c s trig i r t u =
     partials_of gm radius r (p_cell (along a_cell) (along b_cell) t u) (dp_cell (along a_cell) (along b_cell) t u) (cells c nan) (cells s nan)
     (cosines trig N i) (sines trig N i) N
 
--- whether a point was worked out, or why not, and document 01's number of that
-abbrev pub point_outcome : Point → Answer
-point_outcome (At p) = Done
-point_outcome (Refused e) = NotDone e
-
-abbrev pub point_number : Point → ℕ
-point_number x = answer_number (point_outcome x)
-
--- the point, where the checks are passed
-abbrev pub point_if : Answer → Partials → Point
-point_if Done p = At p
-point_if (NotDone e) p = Refused e
-
 -- ---- many points, four numbers each
 -- V, ∂V/∂r, ∂V/∂φ, ∂V/∂λ
 unfoldable pub component : Partials → ℕ → Float
@@ -104,28 +87,28 @@ along_cell gm radius N c s trig radii lats i =
 
 -- ---- the checks, of calls that may use k tables of the working list
 -- SIZE of the degree; LENGTH of c, s, and the cosines and sines; SPACE of the working list
-unfoldable pub point_check_of : (k nmax clen slen trig work : ℕ) → Answer
+unfoldable pub point_check_of : (k nmax clen slen trig work : ℕ) → Result ⊤ Refusal
 point_check_of k nmax clen slen trig work =
     tables_check nmax clen slen
-    and_then refuse (not (eqb trig (nmax + nmax + 2))) Length (refuse (ltb work (k * table_size nmax)) Space Done)
+    and_then refuse (not (eqb trig (nmax + nmax + 2))) Length (refuse (ltb work (k * table_size nmax)) Space (Ok tt))
 
 -- SIZE of the number of points and the degree; LENGTH of c, s, the radii, the pairs of the latitudes, the cosines and sines; SPACE of the working
 -- list and of the output, so many numbers a point
-unfoldable pub along_check_of : (k numbers nmax clen slen points radii lats trig work out : ℕ) → Answer
+unfoldable pub along_check_of : (k numbers nmax clen slen points radii lats trig work out : ℕ) → Result ⊤ Refusal
 along_check_of k numbers nmax clen slen points radii lats trig work out =
     refuse (ltb 65535 points) Size
     (tables_check nmax clen slen
     and_then refuse (not (eqb radii points)) Length
     (refuse (not (eqb lats (points + points))) Length
     (refuse (not (eqb trig (points * (nmax + nmax + 2)))) Length
-    (refuse (ltb work (k * table_size nmax)) Space (refuse (ltb out (numbers * points)) Space Done)))))
+    (refuse (ltb work (k * table_size nmax)) Space (refuse (ltb out (numbers * points)) Space (Ok tt))))))
 
 -- how many numbers of the working list `partials` and `partials_along` may use: 4T
 abbrev pub work_size : ℕ → ℕ
 work_size N = 4 * table_size N
 
-abbrev pub partials_check : (nmax clen slen trig work : ℕ) → Answer
+abbrev pub partials_check : (nmax clen slen trig work : ℕ) → Result ⊤ Refusal
 partials_check = point_check_of 4
 
-abbrev pub along_check : (nmax clen slen points radii lats trig work out : ℕ) → Answer
+abbrev pub along_check : (nmax clen slen points radii lats trig work out : ℕ) → Result ⊤ Refusal
 along_check = along_check_of 4 4

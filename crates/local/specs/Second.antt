@@ -1,12 +1,8 @@
 -- The potential V of a field with its first and second partial derivatives at points, in the order of the Rust's operations; the tensor that they
 -- make; and the checks of the calls. Definitions only.
-use Rattle.std.specs.Prelude.{List, [], ◌∷◌, ℕ, zero, suc, ◌+◌, ◌*◌, get_or, Float}
+use Rattle.std.specs.Prelude.{List, [], ◌∷◌, ℕ, zero, suc, ◌+◌, ◌*◌, get_or, Float, Result, ⊤}
 use Rattle.std.specs.Float.{nan}
 use Rattle.std.specs.Float.Ieee.{neg}
-use Rattle.refusal.specs.Numbers.{answer_number}
-use Rattle.refusal.specs.declared.Answer.{Answer}
-use Rattle.refusal.specs.declared.Answer.TheVariants.{Done}
-use Rattle.refusal.specs.declared.Answer.TheVariants.{Refused as NotDone}
 use Rattle.number.specs.Float64.{◌⊕◌, ◌⊖◌, ◌⊗◌, ◌⊘◌, of_whole, one64}
 use Rattle.storage.specs.Triangle.{table_size, cells, along}
 use Rattle.recursion.specs.Recursion.{a_cell, b_cell, p_cell}
@@ -14,9 +10,8 @@ use Rattle.derivative.specs.Derivative.{dp_cell, ddp_cell}
 use Rattle.legendre.specs.Directions.{row_sine, row_cosine, cosines, sines}
 use Rattle.rounding.specs.Sums.{zero⁺}
 use Rattle.local.specs.declared.SecondPartials.{SecondPartials}
-use Rattle.local.specs.declared.SecondPoint.{SecondPoint}
-use Rattle.local.specs.declared.SecondPoint.TheVariants.{At, Refused}
 use Rattle.local.specs.Point.{even_row, order_sum, degree_sum, point_check_of, along_check_of}
+use Rattle.refusal.specs.declared.Refusal.{Refusal}
 
 -- ---- one degree: its rows of P, or of a derivative of P by latitude, and of C and S as functions of the order m, with the cosine and the sine
 -- of mλ; P (C cos mλ + S sin mλ) is `even_term`
@@ -80,19 +75,6 @@ second_at gm radius N c s trig i r t u =
     second_of gm radius r (p_cell (along a_cell) (along b_cell) t u) (dp_cell (along a_cell) (along b_cell) t u) (ddp_cell (along a_cell) (along b_cell) t u)
     (cells c nan) (cells s nan) (cosines trig N i) (sines trig N i) N
 
--- whether a point was worked out, or why not, and document 01's number of that
-abbrev pub second_outcome : SecondPoint → Answer
-second_outcome (At p) = Done
-second_outcome (Refused e) = NotDone e
-
-abbrev pub second_number : SecondPoint → ℕ
-second_number x = answer_number (second_outcome x)
-
--- the point, where the checks are passed
-abbrev pub second_if : Answer → SecondPartials → SecondPoint
-second_if Done p = At p
-second_if (NotDone e) p = Refused e
-
 -- ---- the tensor: the second derivatives of V along north, east and up, row by row, at radius r and the latitude with the sine t and the cosine
 -- u. 1 / cos φ and tan φ are 1 / u and t / u
 abbrev pub tensor_of : SecondPartials → (r t u : Float) → List (List Float)
@@ -136,8 +118,8 @@ abbrev pub second_size : ℕ → ℕ
 second_size N = 5 * table_size N
 
 -- SIZE, LENGTH and SPACE as for the first derivatives, with that size, and ten numbers a point
-abbrev pub second_check : (nmax clen slen trig work : ℕ) → Answer
+abbrev pub second_check : (nmax clen slen trig work : ℕ) → Result ⊤ Refusal
 second_check = point_check_of 5
 
-abbrev pub second_along_check : (nmax clen slen points radii lats trig work out : ℕ) → Answer
+abbrev pub second_along_check : (nmax clen slen points radii lats trig work out : ℕ) → Result ⊤ Refusal
 second_along_check = along_check_of 5 10

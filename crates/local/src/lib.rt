@@ -3,8 +3,8 @@
 
 ghost use Rattle.std.specs.Prelude.{◌≡◌};
 ghost use Rattle.local.specs.Local.{acceleration_of, gravity_of};
-ghost use Rattle.local.specs.Point.{point_number};
-ghost use Rattle.local.specs.Second.{second_number, tensor_of};
+ghost use Rattle.local.specs.Second.{tensor_of};
+ghost use Rattle.refusal.specs.Numbers.{result_number};
 
 use legendre::Latitude;
 use refusal::Refusal;
@@ -20,13 +20,6 @@ pub struct Partials {
     pub dlat: f64,
     // ∂V/∂λ, m²/s² per radian
     pub dlon: f64,
-}
-
-// What the call for one point answers.
-#[derive(Clone, Copy)]
-pub enum Point {
-    At(Partials),
-    Refused(Refusal),
 }
 
 // The potential with its first and second partial derivatives at one point: what a gravity-gradient tensor is made of.
@@ -48,23 +41,6 @@ pub struct SecondPartials {
     pub dlatlon: f64,
 }
 
-// What the call for the second derivatives at one point answers.
-#[derive(Clone, Copy)]
-pub enum SecondPoint {
-    At(SecondPartials),
-    Refused(Refusal),
-}
-
-// 0 where the point is worked out, else the number of the refusal.
-pub fn point_number(x: Point) -> u32
-    ensures { result ≡ point_number x }
-{
-    match x {
-        Point::At(_) => 0,
-        Point::Refused(e) => refusal::refusal_number(e),
-    }
-}
-
 impl Partials {
     // The gravitational acceleration in local components (north, east, up), m/s². At a pole, where east has no direction, u is 0 and so is a divisor.
     pub fn acceleration_neu(self, r: f64, latitude: Latitude) -> [f64; 3]
@@ -82,16 +58,6 @@ impl Partials {
         let up = w2r * latitude.u * latitude.u;
         let g = self.acceleration_neu(r, latitude);
         [g[0] - north, g[1], g[2] + up]
-    }
-}
-
-// 0 where the second derivatives are worked out, else the number of the refusal.
-pub fn second_number(x: SecondPoint) -> u32
-    ensures { result ≡ second_number x }
-{
-    match x {
-        SecondPoint::At(_) => 0,
-        SecondPoint::Refused(e) => refusal::refusal_number(e),
     }
 }
 

@@ -24,10 +24,8 @@ fn add_row(n: usize, at: usize, factor: f64, p: &[f64], c: &[f64], sums: &mut [f
         sums.old sums.new }
 {
     let count = n + 1;
-    let mut m = 0;
-    while m < count {
+    for m in 0..count {
         sums[m] = sums[m] + factor * p[m] * c[at + m];
-        m = m + 1;
     }
 }
 
@@ -126,8 +124,8 @@ fn add_degrees(
         (nmax + 1) y.old y.new }
 {
     let mut at = 0;
-    let mut n = 0;
-    while n < nmax {
+    for pair in 0..(nmax + 1) / 2 {
+        let n = 2 * pair;
         add_degree(
             n, at, t, a, b, c, s, factors, sectorals, r, odd, even, p, x, y,
         );
@@ -150,14 +148,12 @@ fn add_degrees(
             y,
         );
         at = at_odd + n + 2;
-        n = n + 2;
     }
-    if n > nmax {
-        return;
+    if nmax % 2 == 0 {
+        add_degree(
+            nmax, at, t, a, b, c, s, factors, sectorals, r, odd, even, p, x, y,
+        );
     }
-    add_degree(
-        n, at, t, a, b, c, s, factors, sectorals, r, odd, even, p, x, y,
-    );
 }
 
 // The sums over the degrees at one latitude: x with the coefficients c, y with s.

@@ -34,10 +34,8 @@ pub fn copy(size: usize, src: &[f64], list: &mut [f64])
     requires fact_2 { size ≤ length list.old }
     ensures { Filled 0 (from 0 src.now nan) size list.old list.new }
 {
-    let mut k = 0;
-    while k < size {
+    for k in 0..size {
         list[k] = src[k];
-        k = k + 1;
     }
 }
 
@@ -53,10 +51,8 @@ fn identity_row(n: usize, i: usize, at: usize, list: &mut [f64])
     requires { at + n ≤ length list.old }
     ensures { Filled at (kronecker i) n list.old list.new }
 {
-    let mut j = 0;
-    while j < n {
+    for j in 0..n {
         list[at + j] = kronecker(i, j);
-        j = j + 1;
     }
 }
 
@@ -65,10 +61,8 @@ pub fn identity(n: usize, list: &mut [f64])
     requires { Room n list.old }
     ensures { Filled 0 (by_rows kronecker n) (n * n) list.old list.new }
 {
-    let mut i = 0;
-    while i < n {
+    for i in 0..n {
         identity_row(n, i, row(n, i), list);
-        i = i + 1;
     }
 }
 
@@ -78,11 +72,9 @@ pub fn diagonal(n: usize, a: &[f64], list: &mut [f64])
     requires fact_2 { n ≤ length list.old }
     ensures { Filled 0 (diagonal_cell n a.now) n list.old list.new }
 {
-    let mut i = 0;
-    while i < n {
+    for i in 0..n {
         let at = cell(n, i, i);
         list[i] = a[at];
-        i = i + 1;
     }
 }
 
@@ -93,11 +85,9 @@ fn transpose_row(n: usize, i: usize, a: &[f64], at: usize, list: &mut [f64])
     requires fact_3 { at + n ≤ length list.old }
     ensures { Filled at (flipped (cell n a.now) i) n list.old list.new }
 {
-    let mut j = 0;
-    while j < n {
+    for j in 0..n {
         let from = cell(n, j, i);
         list[at + j] = a[from];
-        j = j + 1;
     }
 }
 
@@ -107,10 +97,8 @@ pub fn transpose(n: usize, a: &[f64], list: &mut [f64])
     requires fact_2 { Room n list.old }
     ensures { Filled 0 (by_rows (flipped (cell n a.now)) n) (n * n) list.old list.new }
 {
-    let mut i = 0;
-    while i < n {
+    for i in 0..n {
         transpose_row(n, i, a, row(n, i), list);
-        i = i + 1;
     }
 }
 
@@ -120,13 +108,11 @@ fn rotate_runs(list: &mut [f64], at: usize, to: usize, n: usize, c: f64, s: f64)
     requires fact_2 { to + n ≤ length list.old }
     ensures { RunsRotated c s at to n list.old list.new }
 {
-    let mut k = 0;
-    while k < n {
+    for k in 0..n {
         let x = list[at + k];
         let y = list[to + k];
         list[at + k] = c * x - s * y;
         list[to + k] = s * x + c * y;
-        k = k + 1;
     }
 }
 
@@ -147,13 +133,11 @@ pub fn rotate_columns(list: &mut [f64], n: usize, p: usize, q: usize, c: f64, s:
     requires fact_3 { q < n }
     ensures { ColumnsRotated c s n p q list.old list.new }
 {
-    let mut k = 0;
-    while k < n {
+    for k in 0..n {
         let at = row(n, k);
         let x = list[at + p];
         let y = list[at + q];
         list[at + p] = c * x - s * y;
         list[at + q] = s * x + c * y;
-        k = k + 1;
     }
 }

@@ -1,65 +1,81 @@
 -- Words by their bytes as the code reads and stores them, and a turn of each loop. Assumes nothing.
+use Rattle.std.specs.Prelude.{None, Option, Some, ℤ}
 use mathlib.Core.Path.{◌≡◌, refl, sym, ap, ◌∙◌}
-use Prim.Native.Nat.{ℕ, suc, ◌+◌, ◌-◌, ◌*◌, ◌/◌, ◌%◌, ◌≤◌, ◌<◌}
+use Prim.Native.Nat.{ℕ, zero, suc, ◌+◌, ◌-◌, ◌*◌, ◌/◌, ◌%◌, ◌≤◌, ◌<◌}
 use native.Mathlib.Nat.{add_assoc}
 use native.Mathlib.Numerals.{add-one}
+use Rattle.std.proofs.Common.{add-zero}
 use native.Mathlib.Omega.{arith}
-use mathlib.Core.List.{List, ◌∷◌, ◌++◌}
-use lib.ListN.{length, get_or, set, drop, drop_of_length-le}
-use lib.Seq.{drop-cons}
+use mathlib.Core.List.{List, ◌∷◌, ◌++◌, append_assoc}
+use lib.ListN.{length, get_or, set, take, drop, drop_of_length-le}
+use lib.Seq.{drop-cons, drop-drop, get_or-take, get_or-drop, sets-eq}
 use lib.IntN.{ℤ}
-use Rattle.storage.specs.Store.{store, store_none, store_cons, store-append}
+use borrow.Rule.Slice.PartMut.{put_mid}
+use Rattle.std.specs.Int.{w64, to_le_bytes}
+use Rattle.storage.specs.Store.{store, store_sets, store_none, store_cons, store-append}
 use Rattle.days.specs.Days.{pattern_of}
 use Rattle.coefficients.specs.Model.{tide_number}
-use Rattle.coefficients.specs.declared.Date.{Date}
-use Rattle.coefficients.specs.declared.Date.TheVariants.{None, Days}
 use Rattle.model_file.specs.declared.FileHead.{FileHead}
 use Rattle.model_file.specs.LittleEndian.{bytes_of, number_at, words_at, length_bytes}
 use Rattle.model_file.specs.Format.{head_kind, head_size, date_bytes, head_bytes, pair_bytes, record_bytes, render}
 use Rattle.model_file.specs.Head.{length_head_bytes}
 use Rattle.model_file.specs.Body.{length_pair}
 
-pub word_of_eight : (s : List ℕ) (at : ℕ)
-    → (get_or s at 0 + 256 * (get_or s (at + 1) 0 + 256 * (get_or s (at + 2) 0 + 256 * get_or s (at + 3) 0)))
-    + (get_or s (at + 4) 0 + 256 * (get_or s (at + 5) 0 + 256 * (get_or s (at + 6) 0 + 256 * get_or s (at + 7) 0))) * 4294967296
+-- an element of the part of s that was copied from index at on
+copied : (s b : List ℕ) (at k i : ℕ) → b ≡ take (at + k - at) (drop at s) → i < k → get_or b i 0 ≡ get_or s (at + i) 0
+copied s b at k i e h =
+    let n : at + k - at ≡ k = omega arith in
+    rw (e, n) (get_or-take k (drop at s) i 0 h ∙ get_or-drop at s i 0)
+
+pub word_of_eight : (s b : List ℕ) (at : ℕ) → b ≡ take (at + 8 - at) (drop at s)
+    → get_or b 0 0 + get_or b 1 0 * 256 + get_or b 2 0 * 65536 + get_or b 3 0 * 16777216 + get_or b 4 0 * 4294967296 + get_or b 5 0 * 1099511627776
+    + get_or b 6 0 * 281474976710656 + get_or b 7 0 * 72057594037927936
     ≡ number_at 8 s at
 unfolding number_at
-word_of_eight s at = simp add_assoc (omega arith)
+word_of_eight s b at e =
+    let x : (i : ℕ) → i < 8 → get_or b i 0 ≡ get_or s (at + i) 0 = λ i h. copied s b at 8 i e h in
+    rw (x 0 (omega arith), x 1 (omega arith), x 2 (omega arith), x 3 (omega arith), x 4 (omega arith), x 5 (omega arith), x 6 (omega arith), x 7 (omega arith), add-zero at)
+    (simp add_assoc (omega arith))
 
 pub pattern_of_four : (s : List ℕ) (at : ℕ)
-    → get_or s at 0 + 256 * (get_or s (at + 1) 0 + 256 * (get_or s (at + 2) 0 + 256 * get_or s (at + 3) 0)) ≡ number_at 4 s at
+    → get_or s at 0 + get_or s (at + 1) 0 * 256 + get_or s (at + 2) 0 * 65536 + get_or s (at + 3) 0 * 16777216 ≡ number_at 4 s at
 unfolding number_at
 pattern_of_four s at = simp add_assoc (omega arith)
 
-pub degree_of_two : (s : List ℕ) (at : ℕ) → get_or s at 0 + 256 * (get_or s (at + 1) 0 + 256 * (0 + 256 * 0)) ≡ number_at 2 s at
+pub degree_of_two : (s : List ℕ) (at : ℕ) → get_or s at 0 + get_or s (at + 1) 0 * 256 ≡ number_at 2 s at
 unfolding number_at
 degree_of_two s at = omega arith
 
-pub store-eight : (d : List ℕ) (at x : ℕ)
-    → set (set (set (set (set (set (set (set d at (x % 256)) (at + 1) (x / 256 % 256)) (at + 2) (x / 65536 % 256)) (at + 3) (x / 16777216 % 256))
-    (at + 4) (x / 4294967296 % 256)) (at + 5) (x / 1099511627776 % 256)) (at + 6) (x / 281474976710656 % 256)) (at + 7) (x / 72057594037927936 % 256)
-    ≡ store at (bytes_of 8 x) d
-unfolding store bytes_of
-store-eight d at x =
+-- std's bytes are those of the format
+pub eight_bytes : (x : ℕ) → to_le_bytes w64 x ≡ bytes_of 8 x
+unfolding bytes_of
+eight_bytes x =
     let e2 : x / 256 / 256 ≡ x / 65536 = omega arith in
     let e3 : x / 65536 / 256 ≡ x / 16777216 = omega arith in
     let e4 : x / 16777216 / 256 ≡ x / 4294967296 = omega arith in
     let e5 : x / 4294967296 / 256 ≡ x / 1099511627776 = omega arith in
     let e6 : x / 1099511627776 / 256 ≡ x / 281474976710656 = omega arith in
     let e7 : x / 281474976710656 / 256 ≡ x / 72057594037927936 = omega arith in
-    simp (add_assoc, e2, e3, e4, e5, e6, e7)
+    simp (e2, e3, e4, e5, e6, e7)
 
-pub store-four : (d : List ℕ) (at x : ℕ)
-    → set (set (set (set d at (x % 256)) (at + 1) (x / 256 % 256)) (at + 2) (x / 65536 % 256)) (at + 3) (x / 16777216 % 256) ≡ store at (bytes_of 4 x) d
-unfolding store bytes_of
-store-four d at x =
-    let e2 : x / 256 / 256 ≡ x / 65536 = omega arith in
-    let e3 : x / 65536 / 256 ≡ x / 16777216 = omega arith in
-    simp (add_assoc, e2, e3)
+take_bytes : (k m x : ℕ) → take k (bytes_of (k + m) x) ≡ bytes_of k x
+unfolding bytes_of
+take_bytes zero m x = refl
+take_bytes (suc k) m x = let e : suc k + m ≡ suc (k + m) = omega arith in rw e (ap (λ (l : List ℕ). x % 256 ∷ l) (take_bytes k m (x / 256)))
 
-pub store_two : (d : List ℕ) (at x : ℕ) → set (set d at (x % 256)) (at + 1) (x / 256 % 256) ≡ store at (bytes_of 2 x) d
-unfolding store bytes_of
-store_two d at x = refl
+pub four_bytes : {l : List ℕ} (x : ℕ) → l ≡ to_le_bytes w64 x → take 4 l ≡ bytes_of 4 x
+four_bytes x e = ap (take 4) (e ∙ eight_bytes x) ∙ take_bytes 4 4 x
+
+pub two_bytes : {l : List ℕ} (x : ℕ) → l ≡ to_le_bytes w64 x → take 2 l ≡ bytes_of 2 x
+two_bytes x e = ap (take 2) (e ∙ eight_bytes x) ∙ take_bytes 2 6 x
+
+-- a part that was written over, from index at on
+pub part_stored : (vs d ys : List ℕ) (at k : ℕ) → ys ≡ vs → length vs ≡ k → at + k ≤ length d → put_mid at (at + k - at) d ys ≡ store at vs d
+part_stored vs d ys at k e l h =
+    let n : at + k - at ≡ k = omega arith in
+    rw (n, e)
+    (ap (λ (r : List ℕ). take at d ++ (vs ++ r)) (drop-drop k at d ∙ ap (λ (j : ℕ). drop (at + j) d) (sym l))
+    ∙ sym (append_assoc (take at d) vs _) ∙ sym (sets-eq vs d at (omega (arith, l, h))) ∙ sym (store_sets at vs d))
 
 -- ---- the loop that reads the pairs: what is stored, with what is still to come
 
@@ -135,9 +151,9 @@ file_parts d d₁ d₂ h c s start z p q =
     ∙ sym (store-append 0 (head_bytes h) (record_bytes c s) d)
 
 -- a date's bytes, by the date
-pub no_date : (d : List ℕ) (t : Date) → t ≡ None → d ≡ store 20 (date_bytes t) d
+pub no_date : (d : List ℕ) (t : Option ℤ) → t ≡ None → d ≡ store 20 (date_bytes t) d
 no_date d t e = rw e (sym (store_none 20 d))
 
-pub stated_date : (d d₁ : List ℕ) (t : Date) (days : ℤ) (x : ℕ) → t ≡ Days days → x ≡ pattern_of days → d₁ ≡ store 20 (bytes_of 4 x) d
+pub stated_date : (d d₁ : List ℕ) (t : Option ℤ) (days : ℤ) (x : ℕ) → t ≡ Some days → x ≡ pattern_of days → d₁ ≡ store 20 (bytes_of 4 x) d
     → d₁ ≡ store 20 (date_bytes t) d
 stated_date d d₁ t days x e f g = rw e (g ∙ ap (λ (n : ℕ). store 20 (bytes_of 4 n) d) f)

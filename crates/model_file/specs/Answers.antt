@@ -1,43 +1,29 @@
 -- What `read` and `write` answer, what `read` leaves in a list, and the answer on each way through the checks. Assumes nothing.
-use Rattle.std.specs.Prelude.{◌≡◌, not, ℕ, ◌+◌, ◌*◌, ◌≤◌, ◌<◌, List, [], length, ltb, eqb}
+use Rattle.std.specs.Prelude.{◌≡◌, not, ℕ, ◌+◌, ◌*◌, ◌≤◌, ◌<◌, List, [], length, ltb, eqb, Err, Ok, Option, Result, ℤ, ⊤}
 use Rattle.std.proofs.Math.Path.{refl}
 use Rattle.std.proofs.Common.{◌∙◌}
 use borrow.Author.Tests.{lt-ltb, le-ltb, eq-eqb, ne_eqb}
-use Rattle.refusal.specs.declared.Answer.{Answer}
-use Rattle.refusal.specs.declared.Answer.TheVariants.{Done}
-use Rattle.refusal.specs.declared.Answer.TheVariants.{Refused as Stopped}
 use Rattle.refusal.specs.declared.Refusal.{Refusal}
 use Rattle.refusal.specs.declared.Refusal.TheVariants.{Size, Length, Space}
-use Rattle.refusal.specs.Numbers.{refuse, answer_number}
+use Rattle.refusal.specs.Numbers.{refuse}
 use Rattle.storage.specs.Answers.{size_of, size_is}
 use Rattle.storage.specs.Store.{store}
 use Rattle.storage.specs.Triangle.{table_size}
-use Rattle.coefficients.specs.declared.Date.{Date}
 use Rattle.model_file.specs.declared.FileHead.{FileHead}
-use Rattle.model_file.specs.declared.Reading.{Reading}
-use Rattle.model_file.specs.declared.Reading.TheVariants.{Model, Refused}
 use Rattle.model_file.specs.LittleEndian.{words_at, length_words}
-use Rattle.model_file.specs.Format.{refuse_reading, head_size, file_size, head_of, body_of, Parsed, model, fault, parse}
+use Rattle.model_file.specs.Format.{head_size, file_size, head_of, body_of, Parsed, model, fault, parse}
 use Rattle.model_file.specs.Head.{head_small}
 use Rattle.model_file.specs.Body.{body_long}
 
--- whether a file was read, or why not, and document 01's number of that
-abbrev pub read_outcome : Reading → Answer
-read_outcome (Model h) = Done
-read_outcome (Refused e) = Stopped e
-
-abbrev pub reading_number : Reading → ℕ
-reading_number r = answer_number (read_outcome r)
-
 -- whether a file is accepted, or why it is refused
-abbrev pub verdict_of : Parsed → Answer
-verdict_of (model h c s) = Done
-verdict_of (fault e) = Stopped e
+abbrev pub verdict_of : Parsed → Result ⊤ Refusal
+verdict_of (model h c s) = Ok tt
+verdict_of (fault e) = Err e
 
 -- what `read` answers, by what the file says and by the lengths of the lists for c and s
-abbrev pub read_answer : Parsed → ℕ → ℕ → Reading
-read_answer (model h c s) lc ls = refuse_reading (ltb lc (length c)) Space (refuse_reading (ltb ls (length s)) Space (Model h))
-read_answer (fault e) lc ls = Refused e
+abbrev pub read_answer : Parsed → ℕ → ℕ → Result FileHead Refusal
+read_answer (model h c s) lc ls = refuse (ltb lc (length c)) Space (refuse (ltb ls (length s)) Space (Ok h))
+read_answer (fault e) lc ls = Err e
 
 -- the numbers c and s of a file, none where it is refused
 abbrev pub c_of : Parsed → List ℕ
@@ -49,13 +35,13 @@ s_of (model h c s) = s
 s_of (fault e) = []
 
 -- what `write` answers, by the date, N, the lengths of c and s, and the length of the list for the file
-unfoldable pub write_answer : Date → ℕ → ℕ → ℕ → ℕ → Answer
+unfoldable pub write_answer : Option ℤ → ℕ → ℕ → ℕ → ℕ → Result ⊤ Refusal
 write_answer date nmax lc ls lo =
     refuse (ltb 2700 nmax) Size
     (refuse (not (eqb lc (table_size nmax))) Length
     (refuse (not (eqb ls (table_size nmax))) Length
     (refuse (ltb lo (file_size date nmax)) Space
-    Done)))
+    (Ok tt))))
 
 -- ---- `read`, with the answers of the head's and of the records' checks as the code has them
 
@@ -64,57 +50,57 @@ pub record Readable (s : List ℕ) (h : FileHead) (k : ℕ) : Type 0 where
   pub is : parse s ≡ model h (words_at s k (head_size h.date + 1)) (words_at s k (head_size h.date + 9))
   pub long : length s ≡ head_size h.date + 17 * k + 1
 
-module _ (s : List ℕ) (r : Reading) (p : r ≡ head_of s) where
-  pub refused_by_head : (e : Refusal) → r ≡ Refused e → parse s ≡ fault e
+module _ (s : List ℕ) (r : Result FileHead Refusal) (p : r ≡ head_of s) where
+  pub refused_by_head : (e : Refusal) → r ≡ Err e → parse s ≡ fault e
   unfolding parse
-  refused_by_head e q = let i : head_of s ≡ Refused e = cc in rw i refl
+  refused_by_head e q = let i : head_of s ≡ Err e = cc in rw i refl
 
-  module _ (h : FileHead) (q : r ≡ Model h) (k : ℕ) (n : k ≡ size_of h.nmax) (start : ℕ) (z : start ≡ head_size h.date) (a : Answer) (u : a ≡ body_of s k start) where
+  module _ (h : FileHead) (q : r ≡ Ok h) (k : ℕ) (n : k ≡ size_of h.nmax) (start : ℕ) (z : start ≡ head_size h.date) (a : Result ⊤ Refusal) (u : a ≡ body_of s k start) where
     pairs : k ≡ table_size h.nmax
-    pairs = let i : head_of s ≡ Model h = cc in n ∙ size_is h.nmax (head_small s h i)
+    pairs = let i : head_of s ≡ Ok h = cc in n ∙ size_is h.nmax (head_small s h i)
 
-    pub refused_by_body : (e : Refusal) → a ≡ Stopped e → parse s ≡ fault e
+    pub refused_by_body : (e : Refusal) → a ≡ Err e → parse s ≡ fault e
     unfolding parse
     refused_by_body e v =
-        let i : head_of s ≡ Model h = cc in
+        let i : head_of s ≡ Ok h = cc in
         let t = pairs in
-        let j : body_of s (table_size h.nmax) (head_size h.date) ≡ Stopped e = cc in
+        let j : body_of s (table_size h.nmax) (head_size h.date) ≡ Err e = cc in
         rw (i, j) refl
 
-    pub readable : a ≡ Done → Readable s h k
+    pub readable : a ≡ Ok tt → Readable s h k
     unfolding parse
     readable v =
-        let i : head_of s ≡ Model h = cc in
+        let i : head_of s ≡ Ok h = cc in
         let t = pairs in
-        let j : body_of s (table_size h.nmax) (head_size h.date) ≡ Done = cc in
-        let l : body_of s k (head_size h.date) ≡ Done = cc in
+        let j : body_of s (table_size h.nmax) (head_size h.date) ≡ Ok tt = cc in
+        let l : body_of s k (head_size h.date) ≡ Ok tt = cc in
         record { is = rw (i, j, t) refl; long = body_long s k (head_size h.date) l }
 
-pub verdict_head : (s : List ℕ) (e : Refusal) → parse s ≡ fault e → Stopped e ≡ verdict_of (parse s)
+pub verdict_head : (s : List ℕ) (e : Refusal) → parse s ≡ fault e → Err e ≡ verdict_of (parse s)
 verdict_head s e p = rw p refl
 
-pub verdict_body : (s : List ℕ) (r : Reading) → r ≡ head_of s → (h : FileHead) → r ≡ Model h → (k : ℕ) → k ≡ size_of h.nmax
-    → (start : ℕ) → start ≡ head_size h.date → (a : Answer) → a ≡ body_of s k start → a ≡ verdict_of (parse s)
-verdict_body s r p h q k n start z Done u = let y = readable s r p h q k n start z Done u refl in rw y.is refl
-verdict_body s r p h q k n start z (Stopped e) u = let y = refused_by_body s r p h q k n start z (Stopped e) u e refl in rw y refl
+pub verdict_body : (s : List ℕ) (r : Result FileHead Refusal) → r ≡ head_of s → (h : FileHead) → r ≡ Ok h → (k : ℕ) → k ≡ size_of h.nmax
+    → (start : ℕ) → start ≡ head_size h.date → (a : Result ⊤ Refusal) → a ≡ body_of s k start → a ≡ verdict_of (parse s)
+verdict_body s r p h q k n start z (Ok _) u = let y = readable s r p h q k n start z (Ok tt) u refl in rw y.is refl
+verdict_body s r p h q k n start z (Err e) u = let y = refused_by_body s r p h q k n start z (Err e) u e refl in rw y refl
 
-pub read_fault : (s : List ℕ) (lc ls : ℕ) (e : Refusal) → parse s ≡ fault e → Refused e ≡ read_answer (parse s) lc ls
+pub read_fault : (s : List ℕ) (lc ls : ℕ) (e : Refusal) → parse s ≡ fault e → Err e ≡ read_answer (parse s) lc ls
 read_fault s lc ls e p = rw p refl
 
 module _ (s : List ℕ) (h : FileHead) (k : ℕ) (y : Readable s h k) where
   words : (at : ℕ) → length (words_at s k (head_size h.date + at)) ≡ k
   words at = length_words s k (head_size h.date + at)
 
-  pub read_space_c : (lc ls : ℕ) → lc < k → Refused Space ≡ read_answer (parse s) lc ls
-  unfolding refuse_reading
+  pub read_space_c : (lc ls : ℕ) → lc < k → Err Space ≡ read_answer (parse s) lc ls
+  unfolding refuse
   read_space_c lc ls b = simp (y.is, words 1, lt-ltb lc k b)
 
-  pub read_space_s : (lc ls : ℕ) → k ≤ lc → ls < k → Refused Space ≡ read_answer (parse s) lc ls
-  unfolding refuse_reading
+  pub read_space_s : (lc ls : ℕ) → k ≤ lc → ls < k → Err Space ≡ read_answer (parse s) lc ls
+  unfolding refuse
   read_space_s lc ls b d = simp (y.is, words 1, words 9, le-ltb lc k b, lt-ltb ls k d)
 
-  pub read_done : (lc ls : ℕ) → k ≤ lc → k ≤ ls → Model h ≡ read_answer (parse s) lc ls
-  unfolding refuse_reading
+  pub read_done : (lc ls : ℕ) → k ≤ lc → k ≤ ls → Ok h ≡ read_answer (parse s) lc ls
+  unfolding refuse
   read_done lc ls b d = simp (y.is, words 1, words 9, le-ltb lc k b, le-ltb ls k d)
 
   pub read_c : (start : ℕ) → start ≡ head_size h.date → (d d' : List ℕ) → d' ≡ store 0 (words_at s k (start + 1)) d → d' ≡ store 0 (c_of (parse s)) d
@@ -125,8 +111,8 @@ module _ (s : List ℕ) (h : FileHead) (k : ℕ) (y : Readable s h k) where
 
 -- ---- `write`
 
-module _ (date : Date) (n lc ls lo : ℕ) where
-  pub write_size : 2700 < n → Stopped Size ≡ write_answer date n lc ls lo
+module _ (date : Option ℤ) (n lc ls lo : ℕ) where
+  pub write_size : 2700 < n → Err Size ≡ write_answer date n lc ls lo
   unfolding write_answer refuse
   write_size h = simp (lt-ltb 2700 n h)
 
@@ -134,18 +120,18 @@ module _ (date : Date) (n lc ls lo : ℕ) where
     full : k ≡ table_size n
     full = t ∙ size_is n h
 
-    pub write_length_c : (lc ≡ k → ⊥) → Stopped Length ≡ write_answer date n lc ls lo
+    pub write_length_c : (lc ≡ k → ⊥) → Err Length ≡ write_answer date n lc ls lo
     unfolding write_answer refuse
     write_length_c c = rw (← full) (simp (le-ltb 2700 n h, ne_eqb lc k c))
 
-    pub write_length_s : lc ≡ k → (ls ≡ k → ⊥) → Stopped Length ≡ write_answer date n lc ls lo
+    pub write_length_s : lc ≡ k → (ls ≡ k → ⊥) → Err Length ≡ write_answer date n lc ls lo
     unfolding write_answer refuse
     write_length_s c s = rw (← full) (simp (le-ltb 2700 n h, eq-eqb lc k c, ne_eqb ls k s))
 
-    pub write_space : lc ≡ k → ls ≡ k → lo < head_size date + 17 * k + 1 → Stopped Space ≡ write_answer date n lc ls lo
+    pub write_space : lc ≡ k → ls ≡ k → lo < head_size date + 17 * k + 1 → Err Space ≡ write_answer date n lc ls lo
     unfolding write_answer refuse
     write_space c s o = rw (← full) (simp (le-ltb 2700 n h, eq-eqb lc k c, eq-eqb ls k s, lt-ltb lo (head_size date + 17 * k + 1) o))
 
-    pub write_done : lc ≡ k → ls ≡ k → head_size date + 17 * k + 1 ≤ lo → Done ≡ write_answer date n lc ls lo
+    pub write_done : lc ≡ k → ls ≡ k → head_size date + 17 * k + 1 ≤ lo → Ok tt ≡ write_answer date n lc ls lo
     unfolding write_answer refuse
     write_done c s o = rw (← full) (simp (le-ltb 2700 n h, eq-eqb lc k c, eq-eqb ls k s, le-ltb lo (head_size date + 17 * k + 1) o))

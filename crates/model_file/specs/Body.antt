@@ -1,13 +1,10 @@
 -- The records behind the head: the answer on each way through their checks, how long an accepted file is, and that pairs and their records
 -- say the same. Assumes nothing.
-use Rattle.std.specs.Prelude.{◌≡◌, refl, Bool, true, false, not, List, [], ◌∷◌, ◌++◌, length, get_or, drop}
+use Rattle.std.specs.Prelude.{◌≡◌, refl, Bool, true, false, not, List, [], ◌∷◌, ◌++◌, length, get_or, drop, Err, Ok, Result, ⊤}
 use Rattle.std.proofs.Common.{sym, ap, ◌∙◌, not-suc-le-zero, append_assoc, length-append, drop_of_length-le}
 use Prim.Native.Nat.{ℕ, zero, suc, ◌+◌, ◌-◌, ◌*◌, ◌^◌, ◌≤◌, ◌<◌}
 use native.Mathlib.Omega.{arith}
 use borrow.Author.Tests.{lt-ltb, le-ltb, ltb-false, lt-leb, le-leb, leb-false, eq-eqb, ne_eqb, eqb-true}
-use Rattle.refusal.specs.declared.Answer.{Answer}
-use Rattle.refusal.specs.declared.Answer.TheVariants.{Done}
-use Rattle.refusal.specs.declared.Answer.TheVariants.{Refused as Stopped}
 use Rattle.refusal.specs.declared.Refusal.{Refusal}
 use Rattle.refusal.specs.declared.Refusal.TheVariants.{Short, Kind, After}
 use Rattle.refusal.specs.Numbers.{refuse}
@@ -17,17 +14,17 @@ use Rattle.model_file.specs.Format.{body_of, pair_bytes, record_bytes}
 use Rattle.model_file.specs.Head.{not_not}
 
 module _ (s : List ℕ) (at : ℕ) where
-  pub body_absent : (k : ℕ) → length s ≤ at → Stopped Short ≡ body_of s k at
+  pub body_absent : (k : ℕ) → length s ≤ at → Err Short ≡ body_of s k at
   unfolding body_of refuse
   body_absent zero h = simp (le-leb (length s) at h)
   body_absent (suc k) h = simp (le-leb (length s) at h)
 
-  pub pair_kind : (k : ℕ) → 0 < k → at < length s → (get_or s at 0 ≡ 2 → ⊥) → Stopped Kind ≡ body_of s k at
+  pub pair_kind : (k : ℕ) → 0 < k → at < length s → (get_or s at 0 ≡ 2 → ⊥) → Err Kind ≡ body_of s k at
   unfolding body_of refuse
   pair_kind zero p h e = absurd (not-suc-le-zero p)
   pair_kind (suc k) p h e = simp (lt-leb (length s) at h, ne_eqb (get_or s at 0) 2 e)
 
-  pub pair_short : (k : ℕ) → 0 < k → at < length s → get_or s at 0 ≡ 2 → length s < at + 17 → Stopped Short ≡ body_of s k at
+  pub pair_short : (k : ℕ) → 0 < k → at < length s → get_or s at 0 ≡ 2 → length s < at + 17 → Err Short ≡ body_of s k at
   unfolding body_of refuse
   pair_short zero p h e b = absurd (not-suc-le-zero p)
   pair_short (suc k) p h e b = simp (lt-leb (length s) at h, eq-eqb (get_or s at 0) 2 e, lt-ltb (length s) (at + 17) b)
@@ -39,17 +36,17 @@ module _ (s : List ℕ) (at : ℕ) where
       let z : suc k - 1 ≡ k = omega arith in
       simp (z, lt-leb (length s) at h, eq-eqb (get_or s at 0) 2 e, le-ltb (length s) (at + 17) b)
 
-  pub end_kind : (k : ℕ) → k ≤ 0 → at < length s → (get_or s at 0 ≡ 3 → ⊥) → Stopped Kind ≡ body_of s k at
+  pub end_kind : (k : ℕ) → k ≤ 0 → at < length s → (get_or s at 0 ≡ 3 → ⊥) → Err Kind ≡ body_of s k at
   unfolding body_of refuse
   end_kind zero p h e = simp (lt-leb (length s) at h, ne_eqb (get_or s at 0) 3 e)
   end_kind (suc k) p h e = absurd (not-suc-le-zero p)
 
-  pub end_after : (k : ℕ) → k ≤ 0 → at < length s → get_or s at 0 ≡ 3 → at + 1 < length s → Stopped After ≡ body_of s k at
+  pub end_after : (k : ℕ) → k ≤ 0 → at < length s → get_or s at 0 ≡ 3 → at + 1 < length s → Err After ≡ body_of s k at
   unfolding body_of refuse
   end_after zero p h e b = simp (lt-leb (length s) at h, eq-eqb (get_or s at 0) 3 e, lt-ltb (at + 1) (length s) b)
   end_after (suc k) p h e b = absurd (not-suc-le-zero p)
 
-  pub body_done : (k : ℕ) → k ≤ 0 → at < length s → get_or s at 0 ≡ 3 → length s ≤ at + 1 → Done ≡ body_of s k at
+  pub body_done : (k : ℕ) → k ≤ 0 → at < length s → get_or s at 0 ≡ 3 → length s ≤ at + 1 → Ok tt ≡ body_of s k at
   unfolding body_of refuse
   body_done zero p h e b = simp (lt-leb (length s) at h, eq-eqb (get_or s at 0) 3 e, le-ltb (at + 1) (length s) b)
   body_done (suc k) p h e b = absurd (not-suc-le-zero p)
@@ -57,11 +54,11 @@ module _ (s : List ℕ) (at : ℕ) where
 -- ---- what accepted records say of the bytes
 
 -- a ground that did not refuse does not hold
-record Passed (reason : Bool) (x : Answer) : Type 0 where
+record Passed (reason : Bool) (x : Result ⊤ Refusal) : Type 0 where
   holds_not : reason ≡ false
-  on : x ≡ Done
+  on : x ≡ Ok tt
 
-passed : (reason : Bool) (e : Refusal) (x : Answer) → refuse reason e x ≡ Done → Passed reason x
+passed : (reason : Bool) (e : Refusal) (x : Result ⊤ Refusal) → refuse reason e x ≡ Ok tt → Passed reason x
 unfolding refuse
 passed true e x p = let z : ◌≡◌ {A = ℕ} 0 1 = cc in absurd (omega arith)
 passed false e x p = record { holds_not = refl; on = p }
@@ -71,7 +68,7 @@ pub record EndHere (s : List ℕ) (at : ℕ) : Type 0 where
   pub kind : get_or s at 0 ≡ 3
   pub long : length s ≡ at + 1
 
-pub end_here : (s : List ℕ) (at : ℕ) → body_of s zero at ≡ Done → EndHere s at
+pub end_here : (s : List ℕ) (at : ℕ) → body_of s zero at ≡ Ok tt → EndHere s at
 unfolding body_of
 end_here s at p =
     let p1 = passed _ _ _ p in
@@ -85,9 +82,9 @@ end_here s at p =
 pub record PairHere (s : List ℕ) (k at : ℕ) : Type 0 where
   pub kind : get_or s at 0 ≡ 2
   pub long : at + 17 ≤ length s
-  pub behind : body_of s k (at + 17) ≡ Done
+  pub behind : body_of s k (at + 17) ≡ Ok tt
 
-pub pair_here : (s : List ℕ) (k at : ℕ) → body_of s (suc k) at ≡ Done → PairHere s k at
+pub pair_here : (s : List ℕ) (k at : ℕ) → body_of s (suc k) at ≡ Ok tt → PairHere s k at
 unfolding body_of
 pair_here s k at p =
     let p1 = passed _ _ _ p in
@@ -96,7 +93,7 @@ pair_here s k at p =
     record { kind = eqb-true (get_or s at 0) 2 (not_not _ p2.holds_not); long = ltb-false (length s) (at + 17) p3.holds_not; behind = p3.on }
 
 -- how long a file is whose records are accepted
-pub body_long : (s : List ℕ) (k at : ℕ) → body_of s k at ≡ Done → length s ≡ at + 17 * k + 1
+pub body_long : (s : List ℕ) (k at : ℕ) → body_of s k at ≡ Ok tt → length s ≡ at + 17 * k + 1
 body_long s zero at p = omega (arith, end_here s at p)
 body_long s (suc k) at p = let w = pair_here s k at p in omega (arith, body_long s k (at + 17) w.behind)
 
@@ -139,7 +136,7 @@ pair_of s at x y rest hx hy p =
 
 -- the records from index at on are accepted, and say c and d
 pub record Records (s : List ℕ) (at : ℕ) (c d : List ℕ) : Type 0 where
-  pub accepted : body_of s (length c) at ≡ Done
+  pub accepted : body_of s (length c) at ≡ Ok tt
   pub c_is : words_at s (length c) (at + 1) ≡ c
   pub d_is : words_at s (length c) (at + 9) ≡ d
 
@@ -165,7 +162,7 @@ records_of s at (x ∷ c) (y ∷ d) e hc hd p =
     }
 
 -- accepted records are those of the pairs that they say
-pub records_back : (s : List ℕ) (k at : ℕ) → Below 256 s → body_of s k at ≡ Done → drop at s ≡ record_bytes (words_at s k (at + 1)) (words_at s k (at + 9))
+pub records_back : (s : List ℕ) (k at : ℕ) → Below 256 s → body_of s k at ≡ Ok tt → drop at s ≡ record_bytes (words_at s k (at + 1)) (words_at s k (at + 9))
 unfolding record_bytes words_at pair_bytes
 records_back s zero at b p =
     let w = end_here s at p in

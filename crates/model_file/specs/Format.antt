@@ -1,8 +1,5 @@
 -- The model file by document 01, with the dates of document 02 (W1): what a file says or why it is refused, by position, front to back; and the file of a model. Definitions only.
-use Rattle.std.specs.Prelude.{ℕ, zero, suc, ◌+◌, ◌*◌, Bool, not, cond, ◌||◌, List, [], ◌∷◌, ◌++◌, length, get_or, ltb, leb, eqb}
-use Rattle.refusal.specs.declared.Answer.{Answer}
-use Rattle.refusal.specs.declared.Answer.TheVariants.{Done}
-use Rattle.refusal.specs.declared.Answer.TheVariants.{Refused as Stopped}
+use Rattle.std.specs.Prelude.{ℕ, zero, suc, ◌+◌, ◌*◌, Bool, not, cond, ◌||◌, List, [], ◌∷◌, ◌++◌, length, get_or, ltb, leb, eqb, Err, None, Ok, Option, Result, Some, ℤ, ⊤}
 use Rattle.refusal.specs.declared.Refusal.{Refusal}
 use Rattle.refusal.specs.declared.Refusal.TheVariants.{Size, Short, Kind, After}
 use Rattle.refusal.specs.declared.Refusal.TheVariants.{Tide as BadTide}
@@ -10,64 +7,56 @@ use Rattle.refusal.specs.Numbers.{refuse}
 use Rattle.storage.specs.Triangle.{table_size}
 use Rattle.days.specs.Days.{pattern_of, days_of}
 use Rattle.coefficients.specs.Model.{tide_number, tide_of}
-use Rattle.coefficients.specs.declared.Date.{Date}
-use Rattle.coefficients.specs.declared.Date.TheVariants.{None, Days}
 use Rattle.model_file.specs.declared.FileHead.{FileHead}
-use Rattle.model_file.specs.declared.Reading.{Reading}
-use Rattle.model_file.specs.declared.Reading.TheVariants.{Model, Refused}
 use Rattle.model_file.specs.LittleEndian.{bytes_of, number_at, words_at}
-
--- a ground that holds refuses, before what comes after it is looked at
-unfoldable pub refuse_reading : Bool → Refusal → Reading → Reading
-refuse_reading reason e other = cond reason (Refused e) other
 
 -- ---- the head: kind 1 and a body of 19 bytes, or, of a model with a date, kind 4 and the same body followed by the day count in four bytes
 abbrev pub is_head : ℕ → Bool
 is_head kind = eqb kind 1 || eqb kind 4
 
-abbrev pub head_kind : Date → ℕ
+abbrev pub head_kind : Option ℤ → ℕ
 head_kind None = 1
-head_kind (Days d) = 4
+head_kind (Some d) = 4
 
 -- the bytes of the record, kind and body
-abbrev pub head_size : Date → ℕ
+abbrev pub head_size : Option ℤ → ℕ
 head_size None = 20
-head_size (Days d) = 24
+head_size (Some d) = 24
 
-abbrev pub date_bytes : Date → List ℕ
+abbrev pub date_bytes : Option ℤ → List ℕ
 date_bytes None = []
-date_bytes (Days d) = bytes_of 4 (pattern_of d)
+date_bytes (Some d) = bytes_of 4 (pattern_of d)
 
 -- the date of a head, by whether it has one; and by its kind
-abbrev pub date_by : Bool → List ℕ → Date
-date_by dated s = cond dated (Days (days_of (number_at 4 s 20))) None
+abbrev pub date_by : Bool → List ℕ → Option ℤ
+date_by dated s = cond dated (Some (days_of (number_at 4 s 20))) None
 
-abbrev pub date_at : List ℕ → Date
+abbrev pub date_at : List ℕ → Option ℤ
 date_at s = date_by (eqb (get_or s 0 0) 4) s
 
 -- the bytes of a file of N's size
-abbrev pub file_size : Date → ℕ → ℕ
+abbrev pub file_size : Option ℤ → ℕ → ℕ
 file_size date N = head_size date + 17 * table_size N + 1
 
 -- the numbers of a head's body: gm, radius, tide and N, then the date
 abbrev pub head_at : List ℕ → FileHead
 head_at s = record { gm = number_at 8 s 1; radius = number_at 8 s 9; tide = tide_of (get_or s 17 0); date = date_at s; nmax = number_at 2 s 18 }
 
-unfoldable pub head_of : List ℕ → Reading
+unfoldable pub head_of : List ℕ → Result FileHead Refusal
 head_of s =
-    refuse_reading (leb (length s) 0) Short
-    (refuse_reading (not (is_head (get_or s 0 0))) Kind
-    (refuse_reading (ltb (length s) (head_size (date_at s))) Short
-    (refuse_reading (ltb 3 (get_or s 17 0)) BadTide (refuse_reading (ltb 2700 (number_at 2 s 18)) Size
-    (Model (head_at s))))))
+    refuse (leb (length s) 0) Short
+    (refuse (not (is_head (get_or s 0 0))) Kind
+    (refuse (ltb (length s) (head_size (date_at s))) Short
+    (refuse (ltb 3 (get_or s 17 0)) BadTide (refuse (ltb 2700 (number_at 2 s 18)) Size
+    (Ok (head_at s))))))
 
 -- from index at on: so many pairs, each of kind 2 with a body of 16 bytes, then an end of kind 3 without a body, and nothing behind it
-unfoldable pub body_of : List ℕ → ℕ → ℕ → Answer
+unfoldable pub body_of : List ℕ → ℕ → ℕ → Result ⊤ Refusal
 body_of s zero at =
     refuse (leb (length s) at) Short
     (refuse (not (eqb (get_or s at 0) 3)) Kind
     (refuse (ltb (at + 1) (length s)) After
-    Done))
+    (Ok tt)))
 body_of s (suc count) at =
     refuse (leb (length s) at) Short
     (refuse (not (eqb (get_or s at 0) 2)) Kind
@@ -80,13 +69,13 @@ pub data Parsed : Type 0 where
   fault : Refusal → Parsed
 
 -- behind an accepted head, by what its records say
-abbrev pub parse_body : Answer → FileHead → List ℕ → Parsed
-parse_body Done h s = model h (words_at s (table_size h.nmax) (head_size h.date + 1)) (words_at s (table_size h.nmax) (head_size h.date + 9))
-parse_body (Stopped e) h s = fault e
+abbrev pub parse_body : Result ⊤ Refusal → FileHead → List ℕ → Parsed
+parse_body (Ok _) h s = model h (words_at s (table_size h.nmax) (head_size h.date + 1)) (words_at s (table_size h.nmax) (head_size h.date + 9))
+parse_body (Err e) h s = fault e
 
-abbrev pub parse_head : Reading → List ℕ → Parsed
-parse_head (Model h) s = parse_body (body_of s (table_size h.nmax) (head_size h.date)) h s
-parse_head (Refused e) s = fault e
+abbrev pub parse_head : Result FileHead Refusal → List ℕ → Parsed
+parse_head (Ok h) s = parse_body (body_of s (table_size h.nmax) (head_size h.date)) h s
+parse_head (Err e) s = fault e
 
 -- what the file s says
 unfoldable pub parse : List ℕ → Parsed

@@ -1,6 +1,6 @@
 -- The head of a file: the answer on each way through its checks, what an accepted head says of the bytes, and that a head and its record
 -- say the same. Assumes nothing.
-use Rattle.std.specs.Prelude.{◌≡◌, refl, Bool, true, false, not, ℕ, ◌+◌, ◌^◌, ◌≤◌, ◌<◌, List, ◌∷◌, ◌++◌, length, get_or, drop}
+use Rattle.std.specs.Prelude.{◌≡◌, refl, Bool, true, false, not, ℕ, ◌+◌, ◌^◌, ◌≤◌, ◌<◌, List, ◌∷◌, ◌++◌, length, get_or, drop, Err, Ok, Result}
 use Rattle.std.proofs.Common.{sym, ap, ◌∙◌, arith, append_assoc, length-append}
 use borrow.Author.Tests.{lt-ltb, le-ltb, ltb-false, lt-leb, le-leb}
 use Rattle.refusal.specs.declared.Refusal.{Refusal}
@@ -8,49 +8,48 @@ use Rattle.refusal.specs.declared.Refusal.TheVariants.{Size, Short, Kind}
 use Rattle.refusal.specs.declared.Refusal.TheVariants.{Tide as BadTide}
 use Rattle.coefficients.specs.Model.{tide_number, tide_small, tide_back, tide_forth}
 use Rattle.model_file.specs.declared.FileHead.{FileHead}
-use Rattle.model_file.specs.declared.Reading.{Reading}
-use Rattle.model_file.specs.declared.Reading.TheVariants.{Model, Refused}
 use Rattle.model_file.specs.LittleEndian.{bytes_of, number_at, length_bytes, Below, here_head, here_tail, here_rest, here_cons}
 use Rattle.model_file.specs.LittleEndian.{number_here, bytes_here}
-use Rattle.model_file.specs.Format.{refuse_reading, is_head, head_kind, head_size, date_bytes, date_at, head_at, head_of, head_bytes}
+use Rattle.model_file.specs.Format.{is_head, head_kind, head_size, date_bytes, date_at, head_at, head_of, head_bytes}
 use Rattle.model_file.specs.Dates.{DateFits, size_least, length_date, kind_head, kind_back, date_here, date_back}
+use Rattle.refusal.specs.Numbers.{refuse}
 
 module _ (s : List ℕ) where
-  pub head_absent : length s ≤ 0 → Refused Short ≡ head_of s
-  unfolding head_of refuse_reading
+  pub head_absent : length s ≤ 0 → Err Short ≡ head_of s
+  unfolding head_of refuse
   head_absent h = simp (le-leb (length s) 0 h)
 
-  pub head_kind_lem : 0 < length s → not (is_head (get_or s 0 0)) ≡ true → Refused Kind ≡ head_of s
-  unfolding head_of refuse_reading
+  pub head_kind_lem : 0 < length s → not (is_head (get_or s 0 0)) ≡ true → Err Kind ≡ head_of s
+  unfolding head_of refuse
   head_kind_lem h e = simp (lt-leb (length s) 0 h, e)
 
   module _ (h : 0 < length s) (e : not (is_head (get_or s 0 0)) ≡ false) where
-    pub head_body : length s < head_size (date_at s) → Refused Short ≡ head_of s
-    unfolding head_of refuse_reading
+    pub head_body : length s < head_size (date_at s) → Err Short ≡ head_of s
+    unfolding head_of refuse
     head_body b = simp (lt-leb (length s) 0 h, e, lt-ltb (length s) (head_size (date_at s)) b)
 
     module _ (b : head_size (date_at s) ≤ length s) where
-      pub head_tide : 3 < get_or s 17 0 → Refused BadTide ≡ head_of s
-      unfolding head_of refuse_reading
+      pub head_tide : 3 < get_or s 17 0 → Err BadTide ≡ head_of s
+      unfolding head_of refuse
       head_tide t = simp (lt-leb (length s) 0 h, e, le-ltb (length s) (head_size (date_at s)) b, lt-ltb 3 (get_or s 17 0) t)
 
-      pub head_size_lem : get_or s 17 0 ≤ 3 → 2700 < number_at 2 s 18 → Refused Size ≡ head_of s
-      unfolding head_of refuse_reading
+      pub head_size_lem : get_or s 17 0 ≤ 3 → 2700 < number_at 2 s 18 → Err Size ≡ head_of s
+      unfolding head_of refuse
       head_size_lem t n =
           simp (lt-leb (length s) 0 h, e, le-ltb (length s) (head_size (date_at s)) b, le-ltb 3 (get_or s 17 0) t, lt-ltb 2700 (number_at 2 s 18) n)
 
-      pub head_model : get_or s 17 0 ≤ 3 → number_at 2 s 18 ≤ 2700 → Model (head_at s) ≡ head_of s
-      unfolding head_of refuse_reading
+      pub head_model : get_or s 17 0 ≤ 3 → number_at 2 s 18 ≤ 2700 → Ok (head_at s) ≡ head_of s
+      unfolding head_of refuse
       head_model t n =
           simp (lt-leb (length s) 0 h, e, le-ltb (length s) (head_size (date_at s)) b, le-ltb 3 (get_or s 17 0) t, le-ltb 2700 (number_at 2 s 18) n)
 
 -- a ground that did not refuse does not hold
-record Passed (reason : Bool) (x y : Reading) : Type 0 where
+record Passed (reason : Bool) (x y : Result FileHead Refusal) : Type 0 where
   holds_not : reason ≡ false
   on : x ≡ y
 
-passed : (reason : Bool) (e : Refusal) (x : Reading) (h : FileHead) → refuse_reading reason e x ≡ Model h → Passed reason x (Model h)
-unfolding refuse_reading
+passed : (reason : Bool) (e : Refusal) (x : Result FileHead Refusal) (h : FileHead) → refuse reason e x ≡ Ok h → Passed reason x (Ok h)
+unfolding refuse
 passed true e x h p = let z : ◌≡◌ {A = ℕ} 0 1 = cc in absurd (omega arith)
 passed false e x h p = record { holds_not = refl; on = p }
 
@@ -66,10 +65,10 @@ pub record Headed (s : List ℕ) (h : FileHead) : Type 0 where
   pub small : number_at 2 s 18 ≤ 2700
   pub is : h ≡ head_at s
 
-same_model : (g h : FileHead) → Model g ≡ Model h → h ≡ g
+same_model : (g h : FileHead) → ◌≡◌ {A = Result FileHead Refusal} (Ok g) (Ok h) → h ≡ g
 same_model g h p = cc
 
-pub headed : (s : List ℕ) (h : FileHead) → head_of s ≡ Model h → Headed s h
+pub headed : (s : List ℕ) (h : FileHead) → head_of s ≡ Ok h → Headed s h
 unfolding head_of
 headed s h p =
     let p1 = passed _ _ _ h p in
@@ -85,7 +84,7 @@ headed s h p =
       is = same_model _ h p5.on;
     }
 
-pub head_small : (s : List ℕ) (h : FileHead) → head_of s ≡ Model h → h.nmax ≤ 2700
+pub head_small : (s : List ℕ) (h : FileHead) → head_of s ≡ Ok h → h.nmax ≤ 2700
 head_small s h p = let d = headed s h p in rw d.is d.small
 
 pub length_head_bytes : (h : FileHead) → length (head_bytes h) ≡ head_size h.date
@@ -99,13 +98,13 @@ kind_of_head h rest = refl
 
 -- ---- from a head to its record and back
 
-head_is : (s : List ℕ) (h : FileHead) → Model (head_at s) ≡ head_of s → number_at 8 s 1 ≡ h.gm → number_at 8 s 9 ≡ h.radius
-    → get_or s 17 0 ≡ tide_number h.tide → date_at s ≡ h.date → number_at 2 s 18 ≡ h.nmax → head_of s ≡ Model h
+head_is : (s : List ℕ) (h : FileHead) → Ok (head_at s) ≡ head_of s → number_at 8 s 1 ≡ h.gm → number_at 8 s 9 ≡ h.radius
+    → get_or s 17 0 ≡ tide_number h.tide → date_at s ≡ h.date → number_at 2 s 18 ≡ h.nmax → head_of s ≡ Ok h
 head_is s h p g r t d n = sym p ∙ rw (g, r, t, tide_back, d, n) refl
 
 -- what stands behind a head's record, and that the record says that head
 pub record HeadThen (s : List ℕ) (h : FileHead) (rest : List ℕ) : Type 0 where
-  pub is : head_of s ≡ Model h
+  pub is : head_of s ≡ Ok h
   pub behind : drop (head_size h.date) s ≡ rest
 
 pub head_of_bytes : (h : FileHead) (rest : List ℕ) → h.gm < 2 ^ 64 → h.radius < 2 ^ 64 → DateFits h.date → h.nmax ≤ 2700

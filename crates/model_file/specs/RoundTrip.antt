@@ -1,19 +1,15 @@
 -- There and back: the file of a model says that model, every bit; what an accepted file says makes that file again, every byte; and an
 -- accepted file has 21 + 17 T bytes, or 25 + 17 T with a date. Assumes nothing.
-use Rattle.std.specs.Prelude.{◌≡◌, refl, ℕ, ◌+◌, ◌*◌, ◌^◌, ◌≤◌, ◌<◌, List, ◌++◌, length, get_or}
+use Rattle.std.specs.Prelude.{◌≡◌, refl, ℕ, ◌+◌, ◌*◌, ◌^◌, ◌≤◌, ◌<◌, List, ◌++◌, length, get_or, Err, Ok, Result, ⊤}
 use Rattle.std.proofs.Common.{sym, ap, ◌∙◌, arith, length-append}
-use Rattle.refusal.specs.declared.Answer.{Answer}
-use Rattle.refusal.specs.declared.Answer.TheVariants.{Done}
-use Rattle.refusal.specs.declared.Answer.TheVariants.{Refused as Stopped}
 use Rattle.storage.specs.Triangle.{table_size}
 use Rattle.model_file.specs.declared.FileHead.{FileHead}
-use Rattle.model_file.specs.declared.Reading.{Reading}
-use Rattle.model_file.specs.declared.Reading.TheVariants.{Model, Refused}
 use Rattle.model_file.specs.LittleEndian.{words_at, length_words, Below, number_fits, words_fit}
 use Rattle.model_file.specs.Dates.{DateFits, date_fits_at}
 use Rattle.model_file.specs.Format.{head_kind, head_size, file_size, head_of, body_of, model, parse_body, parse_head, parse, head_bytes, record_bytes, render}
 use Rattle.model_file.specs.Head.{kind_of_head, headed, head_small, length_head_bytes, head_of_bytes, head_back}
 use Rattle.model_file.specs.Body.{body_long, length_records, Records, records_of, records_back}
+use Rattle.refusal.specs.declared.Refusal.{Refusal}
 
 -- a model as code can hold one: patterns of 64 bits, any date, a degree that is not refused, and as many pairs as it asks for
 pub record Sound (h : FileHead) (c s : List ℕ) : Type 0 where
@@ -28,19 +24,19 @@ pub record Sound (h : FileHead) (c s : List ℕ) : Type 0 where
 
 -- an accepted file, taken apart
 pub record Accepted (b : List ℕ) (h : FileHead) (c s : List ℕ) : Type 0 where
-  pub head_is : head_of b ≡ Model h
-  pub body_is : body_of b (table_size h.nmax) (head_size h.date) ≡ Done
+  pub head_is : head_of b ≡ Ok h
+  pub body_is : body_of b (table_size h.nmax) (head_size h.date) ≡ Ok tt
   pub c_is : c ≡ words_at b (table_size h.nmax) (head_size h.date + 1)
   pub s_is : s ≡ words_at b (table_size h.nmax) (head_size h.date + 9)
 
-by_body : (b : List ℕ) (g h : FileHead) (c s : List ℕ) (a : Answer) → head_of b ≡ Model g → body_of b (table_size g.nmax) (head_size g.date) ≡ a
+by_body : (b : List ℕ) (g h : FileHead) (c s : List ℕ) (a : Result ⊤ Refusal) → head_of b ≡ Ok g → body_of b (table_size g.nmax) (head_size g.date) ≡ a
     → parse_body a g b ≡ model h c s → Accepted b h c s
-by_body b g h c s Done p q r = let e : h ≡ g = cc in rw e (record { head_is = p; body_is = q; c_is = cc; s_is = cc })
-by_body b g h c s (Stopped e) p q r = let z : ◌≡◌ {A = ℕ} 0 1 = cc in absurd (omega arith)
+by_body b g h c s (Ok _) p q r = let e : h ≡ g = cc in rw e (record { head_is = p; body_is = q; c_is = cc; s_is = cc })
+by_body b g h c s (Err e) p q r = let z : ◌≡◌ {A = ℕ} 0 1 = cc in absurd (omega arith)
 
-by_head : (b : List ℕ) (h : FileHead) (c s : List ℕ) (r : Reading) → head_of b ≡ r → parse_head r b ≡ model h c s → Accepted b h c s
-by_head b h c s (Model g) p q = by_body b g h c s _ p refl q
-by_head b h c s (Refused e) p q = let z : ◌≡◌ {A = ℕ} 0 1 = cc in absurd (omega arith)
+by_head : (b : List ℕ) (h : FileHead) (c s : List ℕ) (r : Result FileHead Refusal) → head_of b ≡ r → parse_head r b ≡ model h c s → Accepted b h c s
+by_head b h c s (Ok g) p q = by_body b g h c s _ p refl q
+by_head b h c s (Err e) p q = let z : ◌≡◌ {A = ℕ} 0 1 = cc in absurd (omega arith)
 
 pub accepted : (b : List ℕ) (h : FileHead) (c s : List ℕ) → parse b ≡ model h c s → Accepted b h c s
 unfolding parse
@@ -67,10 +63,10 @@ pub length-render : (h : FileHead) (c s : List ℕ) → length c ≡ length s �
 unfolding render
 length-render h c s e = length-append (head_bytes h) (record_bytes c s) ∙ omega (arith, length_head_bytes h, length_records c s e)
 
-parse_is : (b : List ℕ) (h : FileHead) (c s : List ℕ) → head_of b ≡ Model h → length c ≡ table_size h.nmax → Records b (head_size h.date) c s → parse b ≡ model h c s
+parse_is : (b : List ℕ) (h : FileHead) (c s : List ℕ) → head_of b ≡ Ok h → length c ≡ table_size h.nmax → Records b (head_size h.date) c s → parse b ≡ model h c s
 unfolding parse
 parse_is b h c s i e w =
-    let j : body_of b (table_size h.nmax) (head_size h.date) ≡ Done = rw (← e) w.accepted in
+    let j : body_of b (table_size h.nmax) (head_size h.date) ≡ Ok tt = rw (← e) w.accepted in
     rw (i, j, ← e, w.c_is, w.d_is) refl
 
 -- the writer's kind tells whether the model has a date

@@ -1,21 +1,18 @@
 -- What the front of a file decides: an accepted file that is cut anywhere ends too early, and the bytes behind a first byte too many say
 -- nothing more. Assumes nothing.
-use Rattle.std.specs.Prelude.{◌≡◌, refl, not, ◌⊎◌, List, length, get_or, take, eqb}
+use Rattle.std.specs.Prelude.{◌≡◌, refl, not, ◌⊎◌, List, length, get_or, take, eqb, Err, Ok}
 use Rattle.std.proofs.Common.{sym, ap, ◌∙◌, inl, inr, ⊎_elim, arith}
 use Prim.Native.Nat.{ℕ, zero, suc, ◌+◌, ◌-◌, ◌*◌, ◌≤◌, ◌<◌, zero-le, suc-le-suc}
 use Rattle.std.proofs.Math.Seq.{length-take-le, get_or-take}
 use borrow.Author.Tests.{lt-ltb, le-ltb, lt-leb}
-use Rattle.refusal.specs.declared.Answer.TheVariants.{Done}
-use Rattle.refusal.specs.declared.Answer.TheVariants.{Refused as Stopped}
 use Rattle.refusal.specs.declared.Refusal.TheVariants.{Short}
 use Rattle.refusal.specs.Numbers.{refuse}
 use Rattle.storage.specs.Answers.{size_is}
 use Rattle.storage.specs.Triangle.{table_size}
 use Rattle.model_file.specs.declared.FileHead.{FileHead}
-use Rattle.model_file.specs.declared.Reading.TheVariants.{Model}
 use Rattle.model_file.specs.LittleEndian.{number_front}
 use Rattle.model_file.specs.Dates.{size_least, size_of_kind, date_front}
-use Rattle.model_file.specs.Format.{refuse_reading, is_head, head_size, date_at, head_of, body_of, model, fault, parse}
+use Rattle.model_file.specs.Format.{is_head, head_size, date_at, head_of, body_of, model, fault, parse}
 use Rattle.model_file.specs.Head.{head_absent, head_body, headed, head_small}
 use Rattle.model_file.specs.Body.{body_absent, pair_short, pair_next, end_here, pair_here}
 use Rattle.model_file.specs.Answers.{refused_by_head, refused_by_body}
@@ -30,7 +27,7 @@ lt_or_ge (suc a) (suc b) = ⊎_elim (λ h. inl (suc-le-suc h)) (λ h. inr (suc-l
 module _ (K : ℕ) (s : List ℕ) where
   -- a head is decided by its own bytes
   pub head_front : head_size (date_at s) ≤ K → K ≤ length s → head_of (take K s) ≡ head_of s
-  unfolding head_of refuse_reading
+  unfolding head_of refuse
   head_front h l =
       let least = size_least (date_at s) in
       let n = length-take-le K s l in
@@ -56,8 +53,8 @@ module _ (K : ℕ) (s : List ℕ) where
       simp (n, e, r, lt-leb K at (omega arith), lt-leb (length s) at (omega arith), le-ltb K (at + 17) (omega arith), le-ltb (length s) (at + 17) (omega arith))
 
   -- records that are cut end too early: before a pair, in it, or behind it
-  cut_pair : (k at : ℕ) → get_or s at 0 ≡ 2 → K < length s → (at + 17 ≤ K → Stopped Short ≡ body_of (take K s) k (at + 17)) → (K < at + 1) ⊎ (at + 1 ≤ K)
-      → (K < at + 17) ⊎ (at + 17 ≤ K) → Stopped Short ≡ body_of (take K s) (suc k) at
+  cut_pair : (k at : ℕ) → get_or s at 0 ≡ 2 → K < length s → (at + 17 ≤ K → Err Short ≡ body_of (take K s) k (at + 17)) → (K < at + 1) ⊎ (at + 1 ≤ K)
+      → (K < at + 17) ⊎ (at + 17 ≤ K) → Err Short ≡ body_of (take K s) (suc k) at
   cut_pair k at e l behind (inl h) b = body_absent (take K s) at (suc k) (omega (arith, length-take-le K s (omega arith)))
   cut_pair k at e l behind (inr h) (inl b) =
       let n = length-take-le K s (omega arith) in
@@ -69,7 +66,7 @@ module _ (K : ℕ) (s : List ℕ) where
       ∙ ap (λ (i : ℕ). body_of (take K s) i (at + 17)) (sym j)
       ∙ pair_next (take K s) at (suc k) (omega arith) (omega arith) (get_or-take K s at 0 (omega arith) ∙ e) (omega arith)
 
-  body_cut : (k at : ℕ) → body_of s k at ≡ Done → at ≤ K → K < length s → Stopped Short ≡ body_of (take K s) k at
+  body_cut : (k at : ℕ) → body_of s k at ≡ Ok tt → at ≤ K → K < length s → Err Short ≡ body_of (take K s) k at
   body_cut zero at p h l = let w = end_here s at p in body_absent (take K s) at 0 (omega (arith, length-take-le K s (omega arith)))
   body_cut (suc k) at p h l =
       let w = pair_here s k at p in
@@ -89,7 +86,7 @@ module _ (b : List ℕ) (h : FileHead) (c s : List ℕ) (p : parse b ≡ model h
       let w = accepted b h c s p in
       let v = headed b h w.head_is in
       let size : head_size (date_at b) ≡ head_size h.date = rw v.is refl in
-      let i : Model h ≡ head_of (take K b) = sym (head_front K b (omega arith) (omega arith) ∙ w.head_is) in
+      let i : Ok h ≡ head_of (take K b) = sym (head_front K b (omega arith) (omega arith) ∙ w.head_is) in
       let k : ℕ = table_size h.nmax in
       refused_by_body (take K b) _ i h refl k (sym (size_is h.nmax (head_small b h w.head_is))) _ refl _
       (body_cut K b k (head_size h.date) w.body_is y l) Short refl

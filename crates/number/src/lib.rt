@@ -22,6 +22,7 @@ fn subnormal(b: u64) -> f64
 {
     let mut m = b;
     let mut z = 1022u64;
+    // by what m has become, not by a count
     while m < 4503599627370496 {
         m = m * 2;
         z = z - 1;
@@ -71,9 +72,8 @@ pub fn root_near(x: f64, guess: f64) -> f64
             if guess > 0.0 {
                 let v = b + 4598175219545276416;
                 let q = f64::to_bits(guess) % 4503599627370496 + 4503599627370496;
-                let checked = root_digits::corrected(root_digits::radicand(v), q);
-                if checked.nearest {
-                    return f64::from_bits(v / 9007199254740992 * 4503599627370496 + checked.digits);
+                if let Some(digits) = root_digits::corrected(root_digits::radicand(v), q) {
+                    return f64::from_bits(v / 9007199254740992 * 4503599627370496 + digits);
                 }
             }
         }
@@ -195,6 +195,7 @@ pub fn powi(base: f64, exponent: usize) -> f64
     let mut r = 1.0;
     let mut b = base;
     let mut e = exponent;
+    // by what is left of the exponent, not by a count
     while e > 0 {
         r = times_if_odd(e, r, b);
         e = e / 2;

@@ -3,7 +3,7 @@
 // An estimate, of which nothing is assumed; then an exact check of it by what a * 2^52 has over the square of q, which also corrects it
 // by one unit; and where that fails, which no input is known to do, a bisection. That is called once and last, so that it costs the usual
 // way nothing. The same check serves a guess that the caller lends.
-ghost use Rattle.std.specs.Prelude.{◌≡◌, ℕ, ◌+◌, ◌*◌, ◌/◌, ◌%◌, ◌^◌, ◌<◌, ◌≤◌, true, cond, ltb};
+ghost use Rattle.std.specs.Prelude.{◌≡◌, ℕ, ◌+◌, ◌*◌, ◌/◌, ◌%◌, ◌^◌, ◌<◌, ◌≤◌, IfSome, ltb};
 ghost use Rattle.std.specs.Float.{binary64};
 ghost use Rattle.number.specs.Root.{root_of_units};
 ghost use Rattle.number.specs.NearestRoot.{NearestRoot, ScaledRoot};
@@ -32,6 +32,7 @@ fn bisect(a: u64) -> u64
 {
     let mut lo = 4503599627370496u64;
     let mut hi = 9007199254740992u64;
+    // by what is left of the interval, not by a count
     while hi - lo > 1 {
         let mid = (lo + hi) / 2;
         if below_root(a, mid) {
@@ -53,30 +54,14 @@ fn bisected(a: u64, k: u64) -> f64
     f64::from_bits(k * 4503599627370496 + bisect(a))
 }
 
-// 1 where x is below y, and 0 otherwise.
-fn is_less(x: u64, y: u64) -> u64
-    ensures value { result ≡ cond (ltb x y) 1 0 }
-    ensures upper_bound { result ≤ 1 }
-{
-    if x < y { 1 } else { 0 }
-}
-
-// Digits, and whether they are known to be the nearest to the root.
-#[derive(Clone, Copy)]
-pub struct Checked {
-    pub digits: u64,
-    pub nearest: bool,
-}
-
 // The digits nearest to the root, from digits q that are right or one off. With q = h * 2^26 + l, what a * 2^52 has over the square of q is
 // ((a - h^2) * 2^26 - 2 * h * l) * 2^26 - l^2, which is worked out from the left, so that it comes out with 2^56 added: `remainder`. It shows
-// whether q is right, or one off, which is corrected without a branch, or further off. A flag of its own says which, and no special value
-// of the digits: the compiler then tests nothing twice.
-pub fn corrected(a: u64, q: u64) -> Checked
+// whether q is right, or one off, which is corrected without a branch, or further off, in which case there is no answer.
+pub fn corrected(a: u64, q: u64) -> Option<u64>
     requires fact_1 { 2 ^ 52 ≤ a }
     requires fact_2 { a + 2 ≤ 2 ^ 54 }
     requires fact_3 { q < 2 ^ 53 }
-    ensures { result.nearest ≡ true → NearestRoot a result.digits }
+    ensures { IfSome result (NearestRoot a) }
 {
     let h = q / 67108864;
     let l = q % 67108864;
@@ -96,12 +81,9 @@ pub fn corrected(a: u64, q: u64) -> Checked
                         let high = 72057594037927936 + q;
                         if remainder <= high + 2 * q {
                             if 72057594037927938 < remainder + 3 * q {
-                                let up = is_less(high, remainder);
-                                let not_down = is_less(72057594037927936, remainder + q);
-                                return Checked {
-                                    digits: q + up + not_down - 1,
-                                    nearest: true,
-                                };
+                                let up = u64::from(high < remainder);
+                                let not_down = u64::from(72057594037927936 < remainder + q);
+                                return Some(q + up + not_down - 1);
                             }
                         }
                     }
@@ -109,10 +91,7 @@ pub fn corrected(a: u64, q: u64) -> Checked
             }
         }
     }
-    Checked {
-        digits: q,
-        nearest: false,
-    }
+    None
 }
 
 // The root from an estimate y of it in [1, 2).
@@ -123,9 +102,8 @@ fn correct(a: u64, k: u64, y: f64) -> f64
     ensures { ScaledRoot a k result }
 {
     if y > 0.5 {
-        let checked = corrected(a, f64::to_bits(y) % 9007199254740992);
-        if checked.nearest {
-            return f64::from_bits(k * 4503599627370496 + checked.digits);
+        if let Some(digits) = corrected(a, f64::to_bits(y) % 9007199254740992) {
+            return f64::from_bits(k * 4503599627370496 + digits);
         }
     }
     bisected(a, k)

@@ -1,14 +1,14 @@
 -- A point of `partials_along` is what `partials` answers for it alone, bit by bit. Assumes nothing.
-use Rattle.std.specs.Prelude.{◌≡◌, refl, List, ℕ, zero, suc, ◌+◌, ◌≤◌, ◌<◌, length, Float}
+use Rattle.std.specs.Prelude.{◌≡◌, refl, List, ℕ, zero, suc, ◌+◌, ◌≤◌, ◌<◌, length, Float, Ok, Result, ⊤}
 use Rattle.std.proofs.Common.{sym, ap, ap₂, ◌∙◌, arith}
 use Rattle.number.specs.Float64.{◌⊖◌, ◌⊗◌, ◌⊘◌, of_whole}
-use Rattle.refusal.specs.declared.Answer.{Answer}
 use Rattle.legendre.specs.Directions.{cosines, sines}
-use Rattle.local.specs.declared.Point.TheVariants.{At}
-use Rattle.local.specs.Point.{even_row, east_row, running_power, radial_sum, partials_of, point_at, point_if, partials_check}
+use Rattle.local.specs.Point.{even_row, east_row, running_power, radial_sum, partials_of, point_at, partials_check}
 use Rattle.point_sums.specs.Sums.{even_same, east_same, degree_same}
 use Rattle.point_lists.specs.Checks.{Accepted}
 use Rattle.point_lists.specs.Alone.{own_trig, own_cosine, own_sine, own_passed}
+use Rattle.refusal.specs.declared.Refusal.{Refusal}
+use Rattle.refusal.specs.Numbers.{value_if}
 
 -- rows that agree in the degrees below k have the same sum by radius
 radial_same : (q : Float) (row row' : ℕ → Float) (k : ℕ) → ((n : ℕ) → n < k → row n ≡ row' n) → radial_sum q row k ≡ radial_sum q row' k
@@ -42,8 +42,8 @@ module _ (N i : ℕ) (trig : List Float) (gm radius : Float) (c s : List Float) 
 
   -- where `partials_along` is done, `partials` answers so for each of its points
   pub answer_alone : (points radii lats work out : ℕ) → Accepted 4 4 N (length c) (length s) points radii lats (length trig) work out → i < points
-      → point_if (partials_check N (length c) (length s) (length (own_trig N i trig)) work) (point_at gm radius N c s (own_trig N i trig) 0 r t u)
-      ≡ At (point_at gm radius N c s trig i r t u)
+      → value_if (partials_check N (length c) (length s) (length (own_trig N i trig)) work) (point_at gm radius N c s (own_trig N i trig) 0 r t u)
+      ≡ Ok (point_at gm radius N c s trig i r t u)
   answer_alone points radii lats work out k h =
       let done = own_passed N i trig 4 4 (length c) (length s) points radii lats work out k h in
-      ap (λ (y : Answer). point_if y (point_at gm radius N c s (own_trig N i trig) 0 r t u)) (sym done) ∙ ap At point_alone
+      ap (λ (y : Result ⊤ Refusal). value_if y (point_at gm radius N c s (own_trig N i trig) 0 r t u)) (sym done) ∙ ap Ok point_alone

@@ -1,18 +1,15 @@
 -- The output of a call, point by point, and its answer for one point. Assumes nothing.
-use Rattle.std.specs.Prelude.{◌≡◌, List, [], ◌∷◌, ℕ, ◌≤◌, length, Float}
+use Rattle.std.specs.Prelude.{◌≡◌, List, [], ◌∷◌, ℕ, ◌≤◌, length, Float, Err, Ok, Result, ⊤}
 use Rattle.std.proofs.Common.{ap, arith}
 use Rattle.std.proofs.Math.ListN.{get_or}
 use Rattle.std.specs.Float.Ieee.{nan}
-use Rattle.refusal.specs.declared.Answer.{Answer}
-use Rattle.refusal.specs.declared.Answer.TheVariants.{Done}
-use Rattle.refusal.specs.declared.Answer.TheVariants.{Refused as NotDone}
 use Rattle.refusal.specs.declared.Refusal.{Refusal}
 use Rattle.storage.specs.Filled.{Filled, filled_same}
 use Rattle.legendre.specs.Directions.{row_sine, row_cosine}
 use Rattle.local.specs.declared.Partials.{Partials}
-use Rattle.local.specs.declared.Point.TheVariants.{At, Refused}
-use Rattle.local.specs.Point.{point_at, point_if, component, along_cell}
+use Rattle.local.specs.Point.{point_at, component, along_cell}
 use Rattle.point_lists.specs.Made.{Made, made_one}
+use Rattle.refusal.specs.Numbers.{value_if}
 
 -- the four numbers of a point are its part of the output
 pub along-row : (gm radius : Float) (N : ℕ) (c s trig radii lats : List Float) (i : ℕ) {r t u : Float} {x : Partials} {at : ℕ} {o o' : List Float}
@@ -24,14 +21,14 @@ along-row gm radius N c s trig radii lats i er et eu ex f =
     (λ j h. ap (λ (y : Partials). component y j) (rw (er, et, eu) at ex))
 
 -- ---- the answer for one point
-module _ {a : Answer} where
-  pub point_refused : (e : Refusal) (p : Partials) → NotDone e ≡ a → Refused e ≡ point_if a p
-  point_refused e p h = ap (λ (y : Answer). point_if y p) h
+module _ {a : Result ⊤ Refusal} where
+  pub point_refused : (e : Refusal) (p : Partials) → Err e ≡ a → Err e ≡ value_if a p
+  point_refused e p h = ap (λ (y : Result ⊤ Refusal). value_if y p) h
 
   -- the four numbers of a list of one point
-  pub one_point : (gm radius : Float) (N : ℕ) (c s trig : List Float) (r t u : Float) {front : ℕ} {w w' o o' : List Float} → Done ≡ a
+  pub one_point : (gm radius : Float) (N : ℕ) (c s trig : List Float) (r t u : Float) {front : ℕ} {w w' o o' : List Float} → Ok tt ≡ a
       → Made (along_cell gm radius N c s trig (r ∷ []) (t ∷ (u ∷ []))) 4 front 1 w w' o o' → 4 ≤ length o
-      → At (record { v = get_or o' 0 nan; dr = get_or o' 1 nan; dlat = get_or o' 2 nan; dlon = get_or o' 3 nan }) ≡ point_if a (point_at gm radius N c s trig 0 r t u)
+      → Ok (record { v = get_or o' 0 nan; dr = get_or o' 1 nan; dlat = get_or o' 2 nan; dlon = get_or o' 3 nan }) ≡ value_if a (point_at gm radius N c s trig 0 r t u)
   unfolding along_cell component row_sine row_cosine
   one_point gm radius N c s trig r t u {o' = o'} h made room =
       let p = point_at gm radius N c s trig 0 r t u in
@@ -40,4 +37,4 @@ module _ {a : Answer} where
       let dr : get_or o' 1 nan ≡ p.dr = number 1 (omega arith) in
       let dlat : get_or o' 2 nan ≡ p.dlat = number 2 (omega arith) in
       let dlon : get_or o' 3 nan ≡ p.dlon = number 3 (omega arith) in
-      rw (v, dr, dlat, dlon) (ap (λ (y : Answer). point_if y p) h)
+      rw (v, dr, dlat, dlon) (ap (λ (y : Result ⊤ Refusal). value_if y p) h)

@@ -103,16 +103,14 @@ pub fn all_points(
         4)
         (points * 4) out.old out.new }
 {
-    let mut i = 0;
     let mut at = 0;
-    while i < points {
+    for i in 0..points {
         let latitude = legendre::directions::latitude_of(i, latitudes);
         let x = point(
             i, gm, radius, nmax, radii[i], latitude, a, b, w, c, s, trig, sectorals, rescales,
             even, odd, p, d,
         );
         store_point(at, x, out);
-        i = i + 1;
         at = at + 4;
     }
 }

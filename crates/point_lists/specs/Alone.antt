@@ -1,8 +1,7 @@
 -- One point of many as a call by itself: its cosines and sines as a list of their own, and its checks. Assumes nothing.
-use Rattle.std.specs.Prelude.{◌≡◌, List, ℕ, ◌+◌, ◌*◌, ◌≤◌, ◌<◌, length, get_or, take, drop, Float}
+use Rattle.std.specs.Prelude.{◌≡◌, List, ℕ, ◌+◌, ◌*◌, ◌≤◌, ◌<◌, length, get_or, take, drop, Float, Ok}
 use Rattle.std.proofs.Common.{ap, ◌∙◌, mul-le-mul_right, arith, length-drop, length-take-le, get_or-take, get_or-drop}
 use Rattle.std.specs.Float.{nan}
-use Rattle.refusal.specs.declared.Answer.TheVariants.{Done}
 use Rattle.storage.specs.Checks.{tables_done}
 use Rattle.legendre.specs.Directions.{cosines, sines}
 use Rattle.local.specs.Point.{point_check_of}
@@ -30,7 +29,7 @@ module _ (N i : ℕ) (trig : List Float) where
 
   -- where the checks of many points are passed, so are those of each point by itself
   pub own_passed : (k numbers clen slen points radii lats work out : ℕ) → Accepted k numbers N clen slen points radii lats (length trig) work out
-      → i < points → Done ≡ point_check_of k N clen slen (length own_trig) work
+      → i < points → Ok tt ≡ point_check_of k N clen slen (length own_trig) work
   own_passed k numbers clen slen points radii lats work out a h =
       let M = N + N + 2 in
       let up = mul-le-mul_right M h in

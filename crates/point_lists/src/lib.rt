@@ -6,7 +6,7 @@ ghost use Rattle.storage.specs.Triangle.{table_size};
 ghost use Rattle.local.specs.Point.{point_check_of, along_check_of};
 ghost use Rattle.point_lists.specs.Tables.{with_weights};
 
-use refusal::{Answer, Refusal};
+use refusal::Refusal;
 
 // The most points of a call.
 pub const MAX_POINTS: usize = 65535;
@@ -19,22 +19,18 @@ pub fn point_check(
     slen: usize,
     trig: usize,
     work: usize,
-) -> Answer
+) -> Result<(), Refusal>
     requires { tables ≤ 5 }
     ensures { result ≡ point_check_of tables nmax clen slen trig work }
 {
-    match storage::tables_check(nmax, clen, slen) {
-        Answer::Refused(e) => Answer::Refused(e),
-        Answer::Done => {
-            if trig != nmax + nmax + 2 {
-                return Answer::Refused(Refusal::Length);
-            }
-            if work < tables * clen {
-                return Answer::Refused(Refusal::Space);
-            }
-            Answer::Done
-        }
+    storage::tables_check(nmax, clen, slen)?;
+    if trig != nmax + nmax + 2 {
+        return Err(Refusal::Length);
     }
+    if work < tables * clen {
+        return Err(Refusal::Space);
+    }
+    Ok(())
 }
 
 // The same for many points, with so many numbers of the output each.
@@ -50,35 +46,31 @@ pub fn along_check(
     trig: usize,
     work: usize,
     out: usize,
-) -> Answer
+) -> Result<(), Refusal>
     requires fact_1 { tables ≤ 5 }
     requires fact_2 { numbers ≤ 10 }
     ensures { result ≡ along_check_of tables numbers nmax clen slen points radii lats trig work out }
 {
     if points > MAX_POINTS {
-        return Answer::Refused(Refusal::Size);
+        return Err(Refusal::Size);
     }
-    match storage::tables_check(nmax, clen, slen) {
-        Answer::Refused(e) => Answer::Refused(e),
-        Answer::Done => {
-            if radii != points {
-                return Answer::Refused(Refusal::Length);
-            }
-            if lats != points + points {
-                return Answer::Refused(Refusal::Length);
-            }
-            if trig != points * (nmax + nmax + 2) {
-                return Answer::Refused(Refusal::Length);
-            }
-            if work < tables * clen {
-                return Answer::Refused(Refusal::Space);
-            }
-            if out < numbers * points {
-                return Answer::Refused(Refusal::Space);
-            }
-            Answer::Done
-        }
+    storage::tables_check(nmax, clen, slen)?;
+    if radii != points {
+        return Err(Refusal::Length);
     }
+    if lats != points + points {
+        return Err(Refusal::Length);
+    }
+    if trig != points * (nmax + nmax + 2) {
+        return Err(Refusal::Length);
+    }
+    if work < tables * clen {
+        return Err(Refusal::Space);
+    }
+    if out < numbers * points {
+        return Err(Refusal::Space);
+    }
+    Ok(())
 }
 
 // The tables of the recursion, then the weights of the derivative; `guesses` is overwritten.

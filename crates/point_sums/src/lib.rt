@@ -59,10 +59,9 @@ fn row_sums(
     let mut even = 0.0;
     let mut north = 0.0;
     let mut east = 0.0;
-    let mut m = 0;
     // m as a number, counted along since a cast takes longer
     let mut mf = 0.0;
-    while m < count {
+    for m in 0..count {
         let cos = trig[k + (m + m)];
         let sin = trig[k + (m + m + 1)];
         let cm = c[at + m];
@@ -72,7 +71,6 @@ fn row_sums(
         even = even + pm * both;
         north = north + d[m] * both;
         east = east + pm * mf * (sm * cos - cm * sin);
-        m = m + 1;
         mf = mf + 1.0;
     }
     RowSums { even, north, east }
@@ -180,8 +178,8 @@ pub fn add_degrees(
         dlon: 0.0,
     };
     let mut at = 0;
-    let mut n = 0;
-    while n < nmax {
+    for pair in 0..(nmax + 1) / 2 {
+        let n = 2 * pair;
         let first = add_degree(
             n, at, k, q, t, sums, a, b, w, c, s, trig, sectorals, r, odd, even, p, d,
         );
@@ -207,12 +205,11 @@ pub fn add_degrees(
             d,
         );
         at = at_odd + n + 2;
-        n = n + 2;
     }
-    if n > nmax {
+    if nmax % 2 == 1 {
         return sums;
     }
     add_degree(
-        n, at, k, q, t, sums, a, b, w, c, s, trig, sectorals, r, odd, even, p, d,
+        nmax, at, k, q, t, sums, a, b, w, c, s, trig, sectorals, r, odd, even, p, d,
     )
 }

@@ -1,15 +1,14 @@
 -- The checks of `polar_cap`: one law for each way through them, and what passed checks tell. Assumes nothing.
-use Rattle.std.specs.Prelude.{◌≡◌, refl, not, ℕ, ◌+◌, ◌*◌, ◌≤◌, ◌<◌, ltb, eqb}
+use Rattle.std.specs.Prelude.{◌≡◌, refl, not, ℕ, ◌+◌, ◌*◌, ◌≤◌, ◌<◌, ltb, eqb, Err, Ok, Result, ⊤}
 use Rattle.std.proofs.Common.{mul-le-mul, arith, lt-ltb, le-ltb}
 use Rattle.std.proofs.Math.Dec.{nltb→le}
 use Rattle.refusal.specs.Numbers.{refuse}
-use Rattle.refusal.specs.declared.Answer.{Answer}
-use Rattle.refusal.specs.declared.Answer.TheVariants.{Done, Refused}
 use Rattle.refusal.specs.declared.Refusal.TheVariants.{Size, Length, Space}
 use Rattle.storage.specs.Checks.{past, same, stop, pass, equal, different}
 use Rattle.storage.specs.Triangle.{row_start, table_size, row_start_monotone}
 use Rattle.polar_cap.specs.PolarCap.{vectors_size, cap_work, cap_check}
 use Rattle.cap_functions.specs.CapPlaces.{CapRoom}
+use Rattle.refusal.specs.declared.Refusal.{Refusal}
 
 -- what passed checks tell: a record, whose fields `omega` finds
 pub record CapAccepted (L weights lats work orders concentrations vectors settled : ℕ) : Type 0 where
@@ -23,20 +22,20 @@ pub record CapAccepted (L weights lats work orders concentrations vectors settle
   pub of_settled : (L + 1) * 2 ≤ settled
 
 module _ (L weights lats work orders concentrations vectors settled : ℕ) where
-  abbrev answer : Answer
+  abbrev answer : Result ⊤ Refusal
   answer = cap_check L weights lats work orders concentrations vectors settled
 
   -- what is left to check past the concentrations, and past the lengths
-  abbrev outputs : Answer
-  outputs = refuse (ltb vectors (vectors_size L)) Space (refuse (ltb settled ((L + 1) * 2)) Space Done)
+  abbrev outputs : Result ⊤ Refusal
+  outputs = refuse (ltb vectors (vectors_size L)) Space (refuse (ltb settled ((L + 1) * 2)) Space (Ok tt))
 
-  abbrev spaces : Answer
+  abbrev spaces : Result ⊤ Refusal
   spaces =
       refuse (ltb work (cap_work L)) Space
       (refuse (ltb orders (table_size L)) Space
       (refuse (ltb concentrations (table_size L)) Space outputs))
 
-  pub cap_accepted : Done ≡ answer → CapAccepted L weights lats work orders concentrations vectors settled
+  pub cap_accepted : Ok tt ≡ answer → CapAccepted L weights lats work orders concentrations vectors settled
   unfolding cap_check
   cap_accepted h =
       let (p, h1) = past (ltb 180 L) Size _ h in
@@ -59,51 +58,51 @@ module _ (L weights lats work orders concentrations vectors settled : ℕ) where
       }
 
   -- ---- the ways through them
-  pub large_degree : 180 < L → Refused Size ≡ answer
+  pub large_degree : 180 < L → Err Size ≡ answer
   unfolding cap_check
   large_degree h = stop _ _ (lt-ltb 180 L h)
 
   module _ (t : L ≤ 180) where
-    pub wrong_weights : (weights ≡ L + 1 → ⊥) → Refused Length ≡ answer
+    pub wrong_weights : (weights ≡ L + 1 → ⊥) → Err Length ≡ answer
     unfolding cap_check
     wrong_weights h = pass _ (le-ltb 180 L t) (stop _ _ (different h))
 
     module _ (a : weights ≡ L + 1) where
-      pub wrong_latitudes : (lats ≡ L + 1 + (L + 1) → ⊥) → Refused Length ≡ answer
+      pub wrong_latitudes : (lats ≡ L + 1 + (L + 1) → ⊥) → Err Length ≡ answer
       unfolding cap_check
       wrong_latitudes h = pass _ (le-ltb 180 L t) (pass _ (equal a) (stop _ _ (different h)))
 
       module _ (b : lats ≡ L + 1 + (L + 1)) where
-        past_lengths : {x : Answer} → x ≡ spaces → x ≡ answer
+        past_lengths : {x : Result ⊤ Refusal} → x ≡ spaces → x ≡ answer
         unfolding cap_check
         past_lengths h = pass _ (le-ltb 180 L t) (pass _ (equal a) (pass _ (equal b) h))
 
-        pub short_work : work < cap_work L → Refused Space ≡ answer
+        pub short_work : work < cap_work L → Err Space ≡ answer
         short_work h = past_lengths (stop _ _ (lt-ltb work (cap_work L) h))
 
         module _ (w : cap_work L ≤ work) where
-          pub short_orders : orders < table_size L → Refused Space ≡ answer
+          pub short_orders : orders < table_size L → Err Space ≡ answer
           short_orders h = past_lengths (pass _ (le-ltb work (cap_work L) w) (stop _ _ (lt-ltb orders (table_size L) h)))
 
           module _ (o : table_size L ≤ orders) where
-            past_orders : {x : Answer} → x ≡ refuse (ltb concentrations (table_size L)) Space outputs → x ≡ answer
+            past_orders : {x : Result ⊤ Refusal} → x ≡ refuse (ltb concentrations (table_size L)) Space outputs → x ≡ answer
             past_orders h = past_lengths (pass _ (le-ltb work (cap_work L) w) (pass _ (le-ltb orders (table_size L) o) h))
 
-            pub short_concentrations : concentrations < table_size L → Refused Space ≡ answer
+            pub short_concentrations : concentrations < table_size L → Err Space ≡ answer
             short_concentrations h = past_orders (stop _ _ (lt-ltb concentrations (table_size L) h))
 
             module _ (c : table_size L ≤ concentrations) where
-              pub short_vectors : vectors < vectors_size L → Refused Space ≡ answer
+              pub short_vectors : vectors < vectors_size L → Err Space ≡ answer
               short_vectors h = past_orders (pass _ (le-ltb concentrations (table_size L) c) (stop _ _ (lt-ltb vectors (vectors_size L) h)))
 
               module _ (v : vectors_size L ≤ vectors) where
-                past_vectors : {x : Answer} → x ≡ refuse (ltb settled ((L + 1) * 2)) Space Done → x ≡ answer
+                past_vectors : {x : Result ⊤ Refusal} → x ≡ refuse (ltb settled ((L + 1) * 2)) Space (Ok tt) → x ≡ answer
                 past_vectors h = past_orders (pass _ (le-ltb concentrations (table_size L) c) (pass _ (le-ltb vectors (vectors_size L) v) h))
 
-                pub short_settled : settled < (L + 1) * 2 → Refused Space ≡ answer
+                pub short_settled : settled < (L + 1) * 2 → Err Space ≡ answer
                 short_settled h = past_vectors (stop _ _ (lt-ltb settled ((L + 1) * 2) h))
 
-                pub all_passed : (L + 1) * 2 ≤ settled → Done ≡ answer
+                pub all_passed : (L + 1) * 2 ≤ settled → Ok tt ≡ answer
                 all_passed h = past_vectors (pass _ (le-ltb settled ((L + 1) * 2) h) refl)
 
 -- the lists of an accepted call with the arrays beside them

@@ -1,9 +1,7 @@
 -- The Slepian functions of a polar cap, best concentrated first (Simons, Dahlen & Wieczorek 2006), and the checks of the call. Definitions only.
-use Rattle.std.specs.Prelude.{Bool, not, cond, ℕ, ◌+◌, ◌*◌, ltb, eqb, Float}
+use Rattle.std.specs.Prelude.{Bool, not, cond, ℕ, ◌+◌, ◌*◌, ltb, eqb, Float, Ok, Result, ⊤}
 use mathlib.Core.List.{List, map, flatten}
 use Rattle.refusal.specs.Numbers.{refuse}
-use Rattle.refusal.specs.declared.Answer.{Answer}
-use Rattle.refusal.specs.declared.Answer.TheVariants.{Done}
 use Rattle.refusal.specs.declared.Refusal.TheVariants.{Size, Length, Space}
 use Rattle.number.specs.Float64.{of_whole}
 use Rattle.number.specs.Order.{ranks_before}
@@ -15,6 +13,7 @@ use Rattle.linalg.specs.declared.Convergence.{Convergence}
 use Rattle.linalg.specs.Eigen.{eigen_vectors, eigen_convergence}
 use Rattle.linalg.specs.Solution.{settled_number}
 use Rattle.caps.specs.Caps.{degrees, concentration, grunbaum, rayleigh}
+use Rattle.refusal.specs.declared.Refusal.{Refusal}
 unfoldable pub use Rattle.cap_functions.specs.Functions.{in_column, functions_below, functions, vectors_size, cap_work}
 
 -- the vectors of order m are the columns of a matrix: the eigenvectors of Grünbaum's
@@ -69,7 +68,7 @@ module _ (L : ℕ) (x₀ : Float) (weights lats : List Float) where
 
 -- ---- the checks
 -- SIZE of the degree; LENGTH of the weights and the pairs of the latitudes; SPACE of the working list and the four outputs
-unfoldable pub cap_check : (L weights lats work orders concentrations vectors settled : ℕ) → Answer
+unfoldable pub cap_check : (L weights lats work orders concentrations vectors settled : ℕ) → Result ⊤ Refusal
 cap_check L weights lats work orders concentrations vectors settled =
     refuse (ltb 180 L) Size
     (refuse (not (eqb weights (L + 1))) Length
@@ -77,4 +76,4 @@ cap_check L weights lats work orders concentrations vectors settled =
     (refuse (ltb work (cap_work L)) Space
     (refuse (ltb orders (table_size L)) Space
     (refuse (ltb concentrations (table_size L)) Space
-    (refuse (ltb vectors (vectors_size L)) Space (refuse (ltb settled ((L + 1) * 2)) Space Done)))))))
+    (refuse (ltb vectors (vectors_size L)) Space (refuse (ltb settled ((L + 1) * 2)) Space (Ok tt))))))))

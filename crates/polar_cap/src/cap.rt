@@ -172,7 +172,7 @@ fn tell(m: usize, ended: Convergence, settled: &mut [f64])
     ensures { Filled (m * 2) (told ended) 2 settled.old settled.new }
 {
     let at = m * 2;
-    settled[at] = linalg::settled_number(ended.settled) as f64;
+    settled[at] = u32::from(ended.settled) as f64;
     settled[at + 1] = ended.count as f64;
 }
 
@@ -212,8 +212,7 @@ pub fn all_orders(
     let mut start = 0;
     let mut f = at;
     let mut v = at + total;
-    let mut m = 0;
-    while m < count {
+    for m in 0..count {
         let ended = order(
             m,
             lmax,
@@ -239,7 +238,6 @@ pub fn all_orders(
         f = f + k;
         v = v + cap_functions::square(k);
         start = start + m + 2;
-        m = m + 1;
-        sectoral = legendre::rows::next_sectoral(m, sectoral);
+        sectoral = legendre::rows::next_sectoral(m + 1, sectoral);
     }
 }

@@ -14,7 +14,7 @@ ghost use Rattle.storage.specs.Triangle.{table_size};
 ghost use Rattle.cap_functions.specs.CapPlaces.{Sized};
 ghost use Rattle.polar_cap.specs.PolarCap.{told_of, cap_check, cap_work, cap_orders, cap_concentrations, cap_vectors, vectors_size};
 
-use refusal::Answer;
+use refusal::Refusal;
 
 // The highest degree of a cap's functions.
 pub const MAX_CAP: usize = 180;
@@ -59,7 +59,7 @@ pub fn polar_cap(
     concentrations: &mut [f64],
     vectors: &mut [f64],
     settled: &mut [f64],
-) -> Answer
+) -> Result<(), Refusal>
     ensures value { result ≡ cap_check lmax (length weights.now) (length latitudes.now) (length work.old)
         (length orders.old) (length concentrations.old) (length vectors.old) (length settled.old) }
     ensures orders_after { orders.new ≡ after result
@@ -77,7 +77,7 @@ pub fn polar_cap(
     ensures work_unchanged_1 { behind result (cap_work lmax) work.new ≡ behind result (cap_work lmax) work.old }
     ensures work_unchanged_2 { length work.new ≡ length work.old }
 {
-    match polar::cap_check(
+    polar::cap_check(
         lmax,
         weights.len(),
         latitudes.len(),
@@ -86,21 +86,17 @@ pub fn polar_cap(
         concentrations.len(),
         vectors.len(),
         settled.len(),
-    ) {
-        Answer::Refused(e) => Answer::Refused(e),
-        Answer::Done => {
-            polar::compute(
-                lmax,
-                cosine,
-                weights,
-                latitudes,
-                work,
-                orders,
-                concentrations,
-                vectors,
-                settled,
-            );
-            Answer::Done
-        }
-    }
+    )?;
+    polar::compute(
+        lmax,
+        cosine,
+        weights,
+        latitudes,
+        work,
+        orders,
+        concentrations,
+        vectors,
+        settled,
+    );
+    Ok(())
 }

@@ -6,7 +6,7 @@ ghost use Rattle.cap_functions.specs.CapPlaces.{CapRoom};
 ghost use Rattle.polar_cap.specs.CapChecks.{CapAccepted};
 ghost use Rattle.polar_cap.specs.CapStorage.{CapMade};
 
-use refusal::{Answer, Refusal};
+use refusal::Refusal;
 
 // SIZE, LENGTH and SPACE, over the lengths of the lists.
 pub fn cap_check(
@@ -18,36 +18,36 @@ pub fn cap_check(
     concentrations: usize,
     vectors: usize,
     settled: usize,
-) -> Answer
+) -> Result<(), Refusal>
     ensures { result ≡ cap_check lmax weights latitudes work orders concentrations vectors settled }
 {
     if lmax > crate::MAX_CAP {
-        return Answer::Refused(Refusal::Size);
+        return Err(Refusal::Size);
     }
     let count = lmax + 1;
     if weights != count {
-        return Answer::Refused(Refusal::Length);
+        return Err(Refusal::Length);
     }
     if latitudes != count + count {
-        return Answer::Refused(Refusal::Length);
+        return Err(Refusal::Length);
     }
     let sizes = crate::cap_sizes(lmax);
     if work < sizes.work {
-        return Answer::Refused(Refusal::Space);
+        return Err(Refusal::Space);
     }
     if orders < sizes.functions {
-        return Answer::Refused(Refusal::Space);
+        return Err(Refusal::Space);
     }
     if concentrations < sizes.functions {
-        return Answer::Refused(Refusal::Space);
+        return Err(Refusal::Space);
     }
     if vectors < sizes.numbers {
-        return Answer::Refused(Refusal::Space);
+        return Err(Refusal::Space);
     }
     if settled < count * 2 {
-        return Answer::Refused(Refusal::Space);
+        return Err(Refusal::Space);
     }
-    Answer::Done
+    Ok(())
 }
 
 // The tables, all orders, and the functions ranked; the arrays are overwritten.

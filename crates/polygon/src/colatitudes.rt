@@ -2,7 +2,7 @@
 // no lent list: they are ranked in arrays.
 ghost use Rattle.std.specs.Prelude.{◌≡◌, ◌+◌, ◌≤◌, ◌<◌, length};
 ghost use Rattle.std.specs.Float.{nan};
-ghost use Rattle.refusal.specs.Numbers.{after};
+ghost use Rattle.refusal.specs.Numbers.{after, outcome, value_if};
 ghost use Rattle.storage.specs.Elements.{from};
 ghost use Rattle.storage.specs.Fill.{fill};
 ghost use Rattle.storage.specs.Filled.{Filled};
@@ -10,9 +10,8 @@ ghost use Rattle.ranking.specs.Places.{ranked_places, rising};
 ghost use Rattle.polygon.specs.Picked.{picked_before};
 ghost use Rattle.polygon.specs.PickedLaws.{Counted, Written};
 ghost use Rattle.polygon.specs.Outline.{colatitude_at, is_first, number_at, distinct, breaks_of};
-ghost use Rattle.polygon.specs.Checks.{room_for, count_if, outcome};
+ghost use Rattle.polygon.specs.Checks.{room_for};
 
-use crate::Count;
 use refusal::Refusal;
 
 // The vertices' colatitudes, at the front of a list.
@@ -21,10 +20,8 @@ fn write_colatitudes(v: usize, outline: &[f64], keys: &mut [f64])
     requires fact_2 { v ≤ length keys.old }
     ensures { Filled 0 (colatitude_at outline.now) v keys.old keys.new }
 {
-    let mut i = 0;
-    while i < v {
+    for i in 0..v {
         keys[i] = crate::edges::colatitude(i, outline);
-        i = i + 1;
     }
 }
 
@@ -69,10 +66,8 @@ fn count_distinct(keys: &[f64], places: &[u16]) -> usize
 {
     let n = keys.len();
     let mut k = 0;
-    let mut i = 0;
-    while i < n {
+    for i in 0..n {
         k = count_first(i, k, keys, places);
-        i = i + 1;
     }
     k
 }
@@ -107,19 +102,22 @@ fn write_distinct(keys: &[f64], places: &[u16], out: &mut [f64])
 {
     let n = keys.len();
     let mut k = 0;
-    let mut i = 0;
-    while i < n {
+    for i in 0..n {
         k = write_first(i, k, keys, places, out);
-        i = i + 1;
     }
 }
 
 // The same, refused where the list is too short; answers how many there are. The places are overwritten.
-fn rank_distinct(keys: &[f64], places: &mut [u16], spare: &mut [u16], out: &mut [f64]) -> Count
+fn rank_distinct(
+    keys: &[f64],
+    places: &mut [u16],
+    spare: &mut [u16],
+    out: &mut [f64],
+) -> Result<usize, Refusal>
     requires fact_1 { length keys.now ≤ 4096 }
     requires fact_2 { length keys.now ≤ length places.old }
     requires fact_3 { length keys.now ≤ length spare.old }
-    ensures value { result ≡ count_if (room_for (length out.old) (length (distinct (rising keys.now))))
+    ensures value { result ≡ value_if (room_for (length out.old) (length (distinct (rising keys.now))))
         (length (distinct (rising keys.now))) }
     ensures out_after { out.new ≡ after (outcome result)
         (fill 0 (from 0 (distinct (rising keys.now)) nan) (length (distinct (rising keys.now))) out.old)
@@ -128,10 +126,10 @@ fn rank_distinct(keys: &[f64], places: &mut [u16], spare: &mut [u16], out: &mut 
     ranking::rank(keys, places, spare);
     let k = count_distinct(keys, places);
     if out.len() < k {
-        return Count::Refused(Refusal::Space);
+        return Err(Refusal::Space);
     }
     write_distinct(keys, places, out);
-    Count::Of(k)
+    Ok(k)
 }
 
 // All steps, in lists that are overwritten.
@@ -142,13 +140,13 @@ fn breaks_in(
     places: &mut [u16],
     spare: &mut [u16],
     out: &mut [f64],
-) -> Count
+) -> Result<usize, Refusal>
     requires fact_1 { length outline.now ≡ v + v }
     requires fact_2 { v ≤ 4096 }
     requires fact_3 { v ≤ length keys.old }
     requires fact_4 { v ≤ length places.old }
     requires fact_5 { v ≤ length spare.old }
-    ensures value { result ≡ count_if (room_for (length out.old) (length (breaks_of v outline.now)))
+    ensures value { result ≡ value_if (room_for (length out.old) (length (breaks_of v outline.now)))
         (length (breaks_of v outline.now)) }
     ensures out_after { out.new ≡ after (outcome result)
         (fill 0 (from 0 (breaks_of v outline.now) nan) (length (breaks_of v outline.now)) out.old)
@@ -159,9 +157,9 @@ fn breaks_in(
 }
 
 // Few vertices, in short arrays.
-fn compute_short(v: usize, outline: &[f64], out: &mut [f64]) -> Count
+fn compute_short(v: usize, outline: &[f64], out: &mut [f64]) -> Result<usize, Refusal>
     requires { (length outline.now ≡ v + v) × (v ≤ 64) }
-    ensures value { result ≡ count_if (room_for (length out.old) (length (breaks_of v outline.now)))
+    ensures value { result ≡ value_if (room_for (length out.old) (length (breaks_of v outline.now)))
         (length (breaks_of v outline.now)) }
     ensures out_after { out.new ≡ after (outcome result)
         (fill 0 (from 0 (breaks_of v outline.now) nan) (length (breaks_of v outline.now)) out.old)
@@ -174,10 +172,10 @@ fn compute_short(v: usize, outline: &[f64], out: &mut [f64]) -> Count
 }
 
 // Any number of vertices.
-fn compute_long(v: usize, outline: &[f64], out: &mut [f64]) -> Count
+fn compute_long(v: usize, outline: &[f64], out: &mut [f64]) -> Result<usize, Refusal>
     requires fact_1 { length outline.now ≡ v + v }
     requires fact_2 { v ≤ 4096 }
-    ensures value { result ≡ count_if (room_for (length out.old) (length (breaks_of v outline.now)))
+    ensures value { result ≡ value_if (room_for (length out.old) (length (breaks_of v outline.now)))
         (length (breaks_of v outline.now)) }
     ensures out_after { out.new ≡ after (outcome result)
         (fill 0 (from 0 (breaks_of v outline.now) nan) (length (breaks_of v outline.now)) out.old)
@@ -190,9 +188,9 @@ fn compute_long(v: usize, outline: &[f64], out: &mut [f64]) -> Count
 }
 
 // The breaks of an outline that is accepted.
-pub(crate) fn compute(v: usize, outline: &[f64], out: &mut [f64]) -> Count
+pub(crate) fn compute(v: usize, outline: &[f64], out: &mut [f64]) -> Result<usize, Refusal>
     requires { (length outline.now ≡ v + v) × (v ≤ 4096) }
-    ensures value { result ≡ count_if (room_for (length out.old) (length (breaks_of v outline.now)))
+    ensures value { result ≡ value_if (room_for (length out.old) (length (breaks_of v outline.now)))
         (length (breaks_of v outline.now)) }
     ensures out_after { out.new ≡ after (outcome result)
         (fill 0 (from 0 (breaks_of v outline.now) nan) (length (breaks_of v outline.now)) out.old)

@@ -89,10 +89,8 @@ pub(crate) fn count_crossings(v: usize, theta: f64, outline: &[f64]) -> usize
     ensures fact_2 { result ≤ v }
 {
     let mut k = 0;
-    let mut i = 0;
-    while i < v {
+    for i in 0..v {
         k = count_edge(v, i, k, theta, outline);
-        i = i + 1;
     }
     k
 }
@@ -123,9 +121,7 @@ pub(crate) fn write_crossings(v: usize, theta: f64, outline: &[f64], list: &mut 
         list.old list.new }
 {
     let mut k = 0;
-    let mut i = 0;
-    while i < v {
+    for i in 0..v {
         k = write_edge(v, i, k, theta, outline, list);
-        i = i + 1;
     }
 }

@@ -16,10 +16,8 @@ fn write_rising(n: usize, keys: &[f64], places: &[u16], out: &mut [f64])
     requires fact_5 { Filled 0 (from 0 (ranked_places keys.now) 0) (length keys.now) places.now places.now }
     ensures { Filled 0 (from 0 (rising keys.now) nan) n out.old out.new }
 {
-    let mut i = 0;
-    while i < n {
+    for i in 0..n {
         out[i] = ranking::rising_at(i, keys, places);
-        i = i + 1;
     }
 }
 

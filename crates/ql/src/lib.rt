@@ -17,7 +17,7 @@ pub struct Rotation {
     pub underflow: bool,
 }
 
-// How many rounds there were, and whether every stopping test was met.
+// How many rounds there were, and whether every stopping test was met. Both stand in either case, so this is no Option.
 #[derive(Clone, Copy)]
 pub struct Settled {
     pub rounds: usize,
@@ -41,14 +41,12 @@ fn block_end(n: usize, l: usize, d: &[f64], e: &[f64]) -> usize
     requires fact_3 { length e.now ≡ n }
     ensures { BlockEnd n l d.now e.now result }
 {
-    let mut m = l;
-    while m + 1 < n {
+    for m in l..n - 1 {
         if !coupled(m, d, e) {
             return m;
         }
-        m = m + 1;
     }
-    m
+    n - 1
 }
 
 // r with the sign of g.
@@ -189,12 +187,10 @@ fn rotations(
         d.new e.new q.new result }
 {
     let mut x = first;
-    let mut i = m;
-    while l < i {
+    for i in (l..m).rev() {
         if x.underflow {
             return x;
         }
-        i = i - 1;
         x = rotate_at(n, m, i, x, d, e, q);
     }
     x
@@ -238,8 +234,7 @@ fn rounds(n: usize, l: usize, done: usize, d: &mut [f64], e: &mut [f64], q: &mut
         d.new e.new q.new result.rounds result.settled }
     ensures fact_2 { result.rounds ≤ done + 100 }
 {
-    let mut k = 0;
-    while k < 100 {
+    for k in 0..100 {
         let m = block_end(n, l, d, e);
         if m == l {
             return Settled {
@@ -248,7 +243,6 @@ fn rounds(n: usize, l: usize, done: usize, d: &mut [f64], e: &mut [f64], q: &mut
             };
         }
         round(n, l, m, d, e, q);
-        k = k + 1;
     }
     Settled {
         rounds: done + 100,
@@ -270,12 +264,10 @@ pub fn iterate(n: usize, d: &mut [f64], e: &mut [f64], q: &mut [f64]) -> Settled
 {
     let mut done: usize = 0;
     let mut settled = true;
-    let mut l = 0;
-    while l < n {
+    for l in 0..n {
         let r = rounds(n, l, done, d, e, q);
         done = r.rounds;
         settled = both(settled, r.settled);
-        l = l + 1;
     }
     Settled {
         rounds: done,

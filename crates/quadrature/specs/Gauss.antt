@@ -1,17 +1,16 @@
 -- Gauss–Legendre quadrature as the code works it out: P(n) by Bonnet's recursion, its roots by Newton's method, and the nodes and weights of
 -- the answer by their index. Assumes nothing.
-use Rattle.std.specs.Prelude.{Bool, false, cond, not, List, ℕ, ◌+◌, ◌-◌, ◌*◌, ◌/◌, ltb, eqb, get_or, Float}
+use Rattle.std.specs.Prelude.{Bool, false, cond, not, List, ℕ, ◌+◌, ◌-◌, ◌*◌, ◌/◌, ltb, eqb, get_or, Float, Ok, Result, ⊤}
 use Rattle.std.specs.Float.{nan}
 use Rattle.std.specs.Float.Ieee.{neg, le}
 use Rattle.number.specs.Float64.{◌⊖◌, ◌⊗◌, ◌⊘◌, double, of_whole, zero64, one64}
 use Rattle.number.specs.Sign.{magnitude_of}
 use Rattle.refusal.specs.Numbers.{refuse}
-use Rattle.refusal.specs.declared.Answer.{Answer}
-use Rattle.refusal.specs.declared.Answer.TheVariants.{Done}
 use Rattle.refusal.specs.declared.Refusal.TheVariants.{Size, Length, Space}
 use Rattle.storage.specs.Iterate.{iterate, iterate_until}
 use Rattle.quadrature.specs.declared.gauss.Polynomials.{Polynomials}
 use Rattle.quadrature.specs.declared.gauss.Newton.{Newton}
+use Rattle.refusal.specs.declared.Refusal.{Refusal}
 
 -- ---- the roots of P(n)
 -- P(k) at z from p0 = P(k - 2) and p1 = P(k - 1): ((2k - 1) z P(k - 1) - (k - 1) P(k - 2)) / k
@@ -94,9 +93,9 @@ unfoldable pub gauss_weight : (ℕ → Float) → ℕ → ℕ → Float
 gauss_weight guesses n j = cond (ltb j (guess_count n)) (upper_weight guesses n j) (upper_weight guesses n (n - 1 - j))
 
 -- SIZE: more than 2701 nodes; LENGTH: not exactly one guess for each root of the upper half; SPACE: no room for n nodes, or for n weights
-unfoldable pub gauss_check : ℕ → ℕ → ℕ → ℕ → Answer
+unfoldable pub gauss_check : ℕ → ℕ → ℕ → ℕ → Result ⊤ Refusal
 gauss_check n guesses x w =
-    refuse (ltb 2701 n) Size (refuse (not (eqb guesses (guess_count n))) Length (refuse (ltb x n) Space (refuse (ltb w n) Space Done)))
+    refuse (ltb 2701 n) Size (refuse (not (eqb guesses (guess_count n))) Length (refuse (ltb x n) Space (refuse (ltb w n) Space (Ok tt))))
 
 -- ---- what the passes over a list write, by what it holds before
 -- from index half on: its front, mirrored

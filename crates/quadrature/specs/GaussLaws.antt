@@ -1,13 +1,12 @@
 -- Laws of Gauss–Legendre quadrature: one for each way through Newton's method and through the checks, and how the passes over the lists join.
 -- Assumes nothing.
-use Rattle.std.specs.Prelude.{◌≡◌, Bool, true, false, List, ℕ, ◌+◌, ◌-◌, ◌≤◌, ◌<◌, length, get_or, Float}
+use Rattle.std.specs.Prelude.{◌≡◌, Bool, true, false, List, ℕ, ◌+◌, ◌-◌, ◌≤◌, ◌<◌, length, get_or, Float, Err, Ok}
 use Rattle.std.proofs.Math.Path.{refl, sym, ap}
 use Rattle.std.proofs.Common.{subst, ◌∙◌, zero-add, arith}
 use Rattle.std.proofs.Math.Bool.{cond}
 use Rattle.std.specs.Float.{nan}
 use borrow.Author.Tests.{lt-ltb, le-ltb, eq-eqb, ne_eqb}
 use Rattle.refusal.specs.Numbers.{refuse}
-use Rattle.refusal.specs.declared.Answer.TheVariants.{Done, Refused}
 use Rattle.refusal.specs.declared.Refusal.TheVariants.{Size, Length, Space}
 use Rattle.storage.specs.Elements.{from}
 use Rattle.storage.specs.Fill.{fill, fill_swap}
@@ -164,22 +163,22 @@ nodes_made guesses {n} {half} {d} {l} {l'} e b r m s =
 
 -- ---- one law for each way through the checks
 module _ (n guesses x w : ℕ) where
-  pub gauss_size : 2701 < n → Refused Size ≡ gauss_check n guesses x w
+  pub gauss_size : 2701 < n → Err Size ≡ gauss_check n guesses x w
   unfolding gauss_check refuse
   gauss_size h = simp (lt-ltb 2701 n h)
 
-  pub gauss_length : n ≤ 2701 → (guesses ≡ guess_count n → ⊥) → Refused Length ≡ gauss_check n guesses x w
+  pub gauss_length : n ≤ 2701 → (guesses ≡ guess_count n → ⊥) → Err Length ≡ gauss_check n guesses x w
   unfolding gauss_check refuse
   gauss_length h g = simp (le-ltb 2701 n h, ne_eqb guesses (guess_count n) g)
 
-  pub gauss_nodes : n ≤ 2701 → guesses ≡ guess_count n → x < n → Refused Space ≡ gauss_check n guesses x w
+  pub gauss_nodes : n ≤ 2701 → guesses ≡ guess_count n → x < n → Err Space ≡ gauss_check n guesses x w
   unfolding gauss_check refuse
   gauss_nodes h g a = simp (le-ltb 2701 n h, eq-eqb guesses (guess_count n) g, lt-ltb x n a)
 
-  pub gauss_weights : n ≤ 2701 → guesses ≡ guess_count n → n ≤ x → w < n → Refused Space ≡ gauss_check n guesses x w
+  pub gauss_weights : n ≤ 2701 → guesses ≡ guess_count n → n ≤ x → w < n → Err Space ≡ gauss_check n guesses x w
   unfolding gauss_check refuse
   gauss_weights h g a b = simp (le-ltb 2701 n h, eq-eqb guesses (guess_count n) g, le-ltb x n a, lt-ltb w n b)
 
-  pub gauss_done : n ≤ 2701 → guesses ≡ guess_count n → n ≤ x → n ≤ w → Done ≡ gauss_check n guesses x w
+  pub gauss_done : n ≤ 2701 → guesses ≡ guess_count n → n ≤ x → n ≤ w → Ok tt ≡ gauss_check n guesses x w
   unfolding gauss_check refuse
   gauss_done h g a b = simp (le-ltb 2701 n h, eq-eqb guesses (guess_count n) g, le-ltb x n a, le-ltb w n b)

@@ -24,7 +24,7 @@ struct FourPolynomials {
 }
 
 // A root of P_n while Newton's method corrects it: the root so far, P_n' where the last correction began, whether that correction was small
-// enough to be the last, and how many there were.
+// enough to be the last, and how many there were. All stand in either case, so this is no Option.
 #[derive(Clone, Copy)]
 struct Newton {
     z: f64,
@@ -58,12 +58,10 @@ fn legendre_pair(n: usize, z: f64) -> Polynomials
 {
     let mut p0 = 1.0;
     let mut p1 = z;
-    let mut k = 2;
-    while k <= n {
+    for k in 2..n + 1 {
         let next = ((2 * k - 1) as f64 * z * p1 - (k - 1) as f64 * p0) / k as f64;
         p0 = p1;
         p1 = next;
-        k = k + 1;
     }
     Polynomials { p0, p1 }
 }
@@ -84,8 +82,7 @@ fn four_pairs(n: usize, za: f64, zb: f64, zc: f64, zd: f64) -> FourPolynomials
     let mut b1 = zb;
     let mut c1 = zc;
     let mut d1 = zd;
-    let mut k = 2;
-    while k <= n {
+    for k in 2..n + 1 {
         let odd = (2 * k - 1) as f64;
         let less = (k - 1) as f64;
         let kf = k as f64;
@@ -101,7 +98,6 @@ fn four_pairs(n: usize, za: f64, zb: f64, zc: f64, zd: f64) -> FourPolynomials
         b1 = b;
         c1 = c;
         d1 = d;
-        k = k + 1;
     }
     FourPolynomials {
         a: Polynomials { p0: a0, p1: a1 },
@@ -158,14 +154,12 @@ fn legendre_root(n: usize, guess: f64) -> Newton
     ensures { result ≡ legendre_root n guess }
 {
     let mut s = start(guess);
-    let mut k = 0usize;
-    while k < 100 {
+    for _k in 0..100usize {
         if s.settled {
             return s;
         }
         let p = legendre_pair(n, s.z);
         s = correct(n, s, p.p0, p.p1);
-        k = k + 1;
     }
     s
 }
@@ -182,8 +176,7 @@ fn four_roots(n: usize, za: f64, zb: f64, zc: f64, zd: f64) -> FourRoots
     let mut b = start(zb);
     let mut c = start(zc);
     let mut d = start(zd);
-    let mut k = 0usize;
-    while k < 100 {
+    for _k in 0..100usize {
         if a.settled && b.settled && c.settled && d.settled {
             return FourRoots { a, b, c, d };
         }
@@ -196,7 +189,6 @@ fn four_roots(n: usize, za: f64, zb: f64, zc: f64, zd: f64) -> FourRoots
         b = correct_unless_settled(n, b, pb);
         c = correct_unless_settled(n, c, pc);
         d = correct_unless_settled(n, d, pd);
-        k = k + 1;
     }
     FourRoots { a, b, c, d }
 }
@@ -267,12 +259,11 @@ fn by_fours(n: usize, half: usize, guesses: &[f64], x: &mut [f64], w: &mut [f64]
     ensures filled { Filled 0 (upper_node (from 0 guesses.now nan) n) result x.old x.new }
     ensures filled_2 { Filled 0 (upper_weight (from 0 guesses.now nan) n) result w.old w.new }
 {
-    let mut i = 0;
-    while i + 3 < half {
-        four_at(n, i, guesses, x, w);
-        i = i + 4;
+    let blocks = half / 4;
+    for block in 0..blocks {
+        four_at(n, 4 * block, guesses, x, w);
     }
-    i
+    4 * blocks
 }
 
 // The roots and their weights from index `at` on, one by one.
@@ -285,12 +276,10 @@ fn one_by_one(n: usize, at: usize, half: usize, guesses: &[f64], x: &mut [f64], 
     ensures filled { Filled at (upper_node (from at guesses.now nan) n) (half - at) x.old x.new }
     ensures filled_2 { Filled at (upper_weight (from at guesses.now nan) n) (half - at) w.old w.new }
 {
-    let mut i = 0;
-    while at + i < half {
+    for i in 0..half - at {
         let r = legendre_root(n, guesses[at + i]);
         x[at + i] = r.z;
         w[at + i] = weight(r.z, r.dp);
-        i = i + 1;
     }
 }
 
@@ -314,10 +303,8 @@ pub fn mirror(n: usize, half: usize, list: &mut [f64])
     requires fact_3 { half ≤ n }
     ensures { Filled half (mirror_from n half list.old) (n - half) list.old list.new }
 {
-    let mut i = 0;
-    while half + i < n {
+    for i in 0..n - half {
         list[half + i] = list[n - 1 - (half + i)];
-        i = i + 1;
     }
 }
 
@@ -335,9 +322,7 @@ pub fn lower_half(n: usize, half: usize, x: &mut [f64])
     requires fact_2 { half ≤ length x.old }
     ensures { Filled 0 (lower_from n x.old) half x.old x.new }
 {
-    let mut j = 0;
-    while j < half {
+    for j in 0..half {
         x[j] = lower_node(n, j, x[j]);
-        j = j + 1;
     }
 }

@@ -10,7 +10,7 @@ ghost use Rattle.storage.specs.Elements.{from};
 ghost use Rattle.storage.specs.Fill.{fill};
 ghost use Rattle.quadrature.specs.Gauss.{gauss_check, gauss_node, gauss_weight};
 
-use refusal::{Answer, Refusal};
+use refusal::Refusal;
 
 // The most nodes of a Gauss–Legendre rule.
 pub const MAX_NODES: usize = 2701;
@@ -19,27 +19,32 @@ pub const MAX_NODES: usize = 2701;
 // and the largest first, with the weights 2/((1 − x²)P_n'²) and the symmetry about 0 imposed. From guesses that are close to the roots the nodes
 // are meant to ascend and the rule to be exact for polynomials of degree up to 2n − 1 but for rounding; what is promised is the numbers of these
 // steps, whatever the guesses are.
-pub fn gauss_legendre(n: usize, guesses: &[f64], x: &mut [f64], w: &mut [f64]) -> Answer
+pub fn gauss_legendre(
+    n: usize,
+    guesses: &[f64],
+    x: &mut [f64],
+    w: &mut [f64],
+) -> Result<(), Refusal>
     ensures value { result ≡ gauss_check n (length guesses.now) (length x.old) (length w.old) }
     ensures x_after { x.new ≡ after result (fill 0 (gauss_node (from 0 guesses.now nan) n) n x.old) x.old }
     ensures w_after { w.new ≡ after result (fill 0 (gauss_weight (from 0 guesses.now nan) n) n w.old) w.old }
 {
     if n > MAX_NODES {
-        return Answer::Refused(Refusal::Size);
+        return Err(Refusal::Size);
     }
     let half = (n + 1) / 2;
     if guesses.len() != half {
-        return Answer::Refused(Refusal::Length);
+        return Err(Refusal::Length);
     }
     if x.len() < n {
-        return Answer::Refused(Refusal::Space);
+        return Err(Refusal::Space);
     }
     if w.len() < n {
-        return Answer::Refused(Refusal::Space);
+        return Err(Refusal::Space);
     }
     gauss::upper_half(n, half, guesses, x, w);
     gauss::mirror(n, half, x);
     gauss::mirror(n, half, w);
     gauss::lower_half(n, half, x);
-    Answer::Done
+    Ok(())
 }

@@ -21,13 +21,6 @@ pub struct Taken {
     pub j: usize,
 }
 
-// A place as an index.
-pub fn index(place: u16) -> usize
-    ensures { result ≡ place }
-{
-    place as usize
-}
-
 // The next of two runs that are merged: of equals the one of the first run.
 fn next(i: usize, mid: usize, j: usize, hi: usize, keys: &[f64], src: &[u16]) -> Taken
     requires fact_1 { i ≤ mid }
@@ -43,8 +36,8 @@ fn next(i: usize, mid: usize, j: usize, hi: usize, keys: &[f64], src: &[u16]) ->
     if j == hi {
         return Taken { at: i, i: i + 1, j };
     }
-    let first = index(src[i]);
-    let second = index(src[j]);
+    let first = usize::from(src[i]);
+    let second = usize::from(src[j]);
     if number::ranks_before(
         number::element_or_nan(keys, second),
         number::element_or_nan(keys, first),
@@ -66,14 +59,12 @@ fn merge_runs(lo: usize, mid: usize, hi: usize, keys: &[f64], src: &[u16], dst: 
 {
     let mut i = lo;
     let mut j = mid;
-    let mut k = lo;
-    while k < hi {
+    for k in lo..hi {
         let taken = next(i, mid, j, hi, keys, src);
         let at = taken.at;
         dst[k] = src[at];
         i = taken.i;
         j = taken.j;
-        k = k + 1;
     }
 }
 
@@ -90,12 +81,10 @@ fn pass(width: usize, keys: &[f64], src: &[u16], dst: &mut [u16])
 {
     let n = keys.len();
     let both = width + width;
-    let mut lo = 0;
-    while lo < n {
+    for lo in (0..n).step_by(both) {
         let mid = storage::smaller(n, lo + width);
         let hi = storage::smaller(n, lo + both);
         merge_runs(lo, mid, hi, keys, src, dst);
-        lo = lo + both;
     }
 }
 
@@ -105,10 +94,8 @@ fn count_up(n: usize, places: &mut [u16])
     requires fact_2 { n ≤ length places.old }
     ensures { Filled 0 place_in n places.old places.new }
 {
-    let mut i = 0;
-    while i < n {
+    for i in 0..n {
         places[i] = i as u16;
-        i = i + 1;
     }
 }
 
@@ -123,6 +110,7 @@ pub fn rank(keys: &[f64], places: &mut [u16], spare: &mut [u16])
     let n = keys.len();
     count_up(n, places);
     let mut width = 1;
+    // the width grows by a factor: no range has such steps
     while width < n {
         // two passes a turn, so that the places end where they began
         pass(width, keys, places, spare);
@@ -141,6 +129,6 @@ pub fn rising_at(i: usize, keys: &[f64], places: &[u16]) -> f64
     ensures { result ≡ get_or (rising keys.now) i nan }
 {
     let last = keys.len() - (i + 1);
-    let place = index(places[last]);
+    let place = usize::from(places[last]);
     keys[place]
 }

@@ -21,10 +21,8 @@ fn inverse_roots(first: usize, nmax: usize, out: &mut [f64])
         return;
     }
     let last = 2 * nmax;
-    let mut k = 1;
-    while k <= last {
+    for k in 1..last + 1 {
         out[k] = number::root(1.0 / k as f64);
-        k = k + 1;
     }
 }
 
@@ -38,10 +36,8 @@ fn ratio_roots(first: usize, nmax: usize, out: &mut [f64])
         return;
     }
     let last = 2 * nmax;
-    let mut k = 1;
-    while k <= last {
+    for k in 1..last + 1 {
         out[k] = number::root((k - 1) as f64 / k as f64);
-        k = k + 1;
     }
 }
 
@@ -55,13 +51,11 @@ fn a_row(n: usize, at: usize, inverse: &[f64], a: &mut [f64])
     let nf = n as f64;
     let product = (2.0 * nf - 1.0) * (2.0 * nf + 1.0);
     let c = number::root(product);
-    let mut m = 0;
     // m as a number, counted along since a cast takes longer
     let mut mf = 0.0;
-    while m < n {
+    for m in 0..n {
         let guess = c * (inverse[n - m] * inverse[n + m]);
         a[at + m] = number::root_near(product / ((nf - mf) * (nf + mf)), guess);
-        m = m + 1;
         mf = mf + 1.0;
     }
     a[at + n] = 0.0;
@@ -84,15 +78,13 @@ fn b_row(n: usize, at: usize, ratio: &[f64], b: &mut [f64])
     let below = 2.0 * nf - 3.0;
     // √(above / below) - 1, closer than the difference
     let excess = 4.0 / below / (1.0 + number::root(above / below));
-    let mut m = 0;
     let mut mf = 0.0;
-    while m < last {
+    for m in 0..last {
         let product = ratio[n - m] * ratio[n + m];
         b[at + m] = number::root_near(
             above * (nf + mf - 1.0) * (nf - mf - 1.0) / ((nf - mf) * (nf + mf) * below),
             product + excess * product,
         );
-        m = m + 1;
         mf = mf + 1.0;
     }
     b[at + last] = 0.0;
@@ -110,11 +102,9 @@ pub fn a_rows(first: usize, start: usize, nmax: usize, inverse: &mut [f64], a: &
 {
     inverse_roots(first, nmax, inverse);
     let mut at = start;
-    let mut n = first;
-    while n <= nmax {
+    for n in first..nmax + 1 {
         a_row(n, at, inverse, a);
         at = at + n + 1;
-        n = n + 1;
     }
 }
 
@@ -129,11 +119,9 @@ pub fn b_rows(first: usize, start: usize, nmax: usize, ratio: &mut [f64], b: &mu
 {
     ratio_roots(first, nmax, ratio);
     let mut at = start;
-    let mut n = first;
-    while n <= nmax {
+    for n in first..nmax + 1 {
         b_row(n, at, ratio, b);
         at = at + n + 1;
-        n = n + 1;
     }
 }
 

@@ -1,11 +1,11 @@
-// Why a call is refused, and what calls answer.
+// Why a call is refused, and the number of it.
 #![tactic(auto)]
 
 ghost use Rattle.std.specs.Prelude.{◌≡◌};
-ghost use Rattle.refusal.specs.Numbers.{refusal_number, answer_number, value_number, value_after};
+ghost use Rattle.refusal.specs.Numbers.{refusal_number, result_number, value_after};
 
 // Why a call is refused, in the order of document 01's numbers, 1 to 9.
-#[derive(Clone, Copy)]
+#[derive(Clone, Copy, Debug, PartialEq, Eq)]
 pub enum Refusal {
     // a degree, an order of a rule or a matrix, or a count of rows or longitudes is too large
     Size,
@@ -27,56 +27,45 @@ pub enum Refusal {
     Tide,
 }
 
-// What a call answers that hands back nothing but its lists.
-#[derive(Clone, Copy)]
-pub enum Answer {
-    Done,
-    Refused(Refusal),
-}
+// Document 01's number of a refusal.
+impl From<Refusal> for u32 {
+    ghost from_gives = { λ e n. n ≡ refusal_number e };
 
-// What a call answers that works out one number.
-#[derive(Clone, Copy)]
-pub enum Number {
-    Value(f64),
-    Refused(Refusal),
-}
-
-pub fn refusal_number(e: Refusal) -> u32
-    ensures { result ≡ refusal_number e }
-{
-    match e {
-        Refusal::Size => 1,
-        Refusal::Length => 2,
-        Refusal::Space => 3,
-        Refusal::Place => 4,
-        Refusal::Love => 5,
-        Refusal::Short => 6,
-        Refusal::Kind => 7,
-        Refusal::After => 8,
-        Refusal::Tide => 9,
+    fn from(e: Refusal) -> u32 {
+        match e {
+            Refusal::Size => 1,
+            Refusal::Length => 2,
+            Refusal::Space => 3,
+            Refusal::Place => 4,
+            Refusal::Love => 5,
+            Refusal::Short => 6,
+            Refusal::Kind => 7,
+            Refusal::After => 8,
+            Refusal::Tide => 9,
+        }
     }
 }
 
-// 0 where the call is done, else the number of its refusal.
-pub fn answer_number(a: Answer) -> u32
-    ensures { result ≡ answer_number a }
+// 0 where a call is done, else the number of its refusal.
+pub fn result_number<T: Copy>(a: Result<T, Refusal>) -> u32
+    ensures { result ≡ result_number a }
 {
     match a {
-        Answer::Done => 0,
-        Answer::Refused(e) => refusal_number(e),
+        Ok(_) => 0,
+        Err(e) => u32::from(e),
     }
 }
 
 // Hands the value on through `value`, which a refusal leaves alone; answers 0 or the number of the refusal.
-pub fn hand_on(a: Number, value: &mut f64) -> u32
-    ensures value { result ≡ value_number a }
+pub fn hand_on<T: Copy>(a: Result<T, Refusal>, value: &mut T) -> u32
+    ensures value { result ≡ result_number a }
     ensures value_after { value.new ≡ value_after a value.old }
 {
     match a {
-        Number::Value(x) => {
+        Ok(x) => {
             *value = x;
             0
         }
-        Number::Refused(e) => refusal_number(e),
+        Err(e) => u32::from(e),
     }
 }

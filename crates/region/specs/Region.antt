@@ -1,13 +1,10 @@
 -- The Slepian functions of a region, best concentrated first (Simons, Dahlen & Wieczorek 2006): the eigenvectors of its concentration matrix, and the
 -- eigenvalues as their concentrations; and the checks of the call. Definitions only.
-use Rattle.std.specs.Prelude.{Bool, true, false, cond, List, ℕ, ◌+◌, ◌*◌, ltb, eqb, get_or, Float}
+use Rattle.std.specs.Prelude.{Bool, true, false, cond, List, ℕ, ◌+◌, ◌*◌, ltb, eqb, get_or, Float, Ok, Result, ⊤}
 use Rattle.std.specs.Float.{nan}
-use Rattle.refusal.specs.Numbers.{refuse}
-use Rattle.refusal.specs.declared.Answer.{Answer}
-use Rattle.refusal.specs.declared.Answer.TheVariants.{Done}
+use Rattle.refusal.specs.Numbers.{refuse, ◌and_then◌}
 use Rattle.refusal.specs.declared.Refusal.TheVariants.{Space}
 use Rattle.number.specs.Float64.{zero64}
-use Rattle.storage.specs.Checks.{◌and_then◌}
 use Rattle.storage.specs.Triangle.{table_size, along}
 use Rattle.matrix.specs.Matrix.{cell}
 use Rattle.linalg.specs.declared.Convergence.{Convergence}
@@ -15,6 +12,7 @@ use Rattle.linalg.specs.Eigen.{eigen_values, eigen_vectors, eigen_convergence}
 use Rattle.ranking.specs.Places.{ranked_places}
 use Rattle.region_nodes.specs.Basis.{basis_size, place_of}
 use Rattle.regions.specs.Checks.{nodes_check}
+use Rattle.refusal.specs.declared.Refusal.{Refusal}
 
 module _ (L : ℕ) (D : List Float) where
   -- the functions by their columns in the matrix of eigenvectors, the best concentrated first, equals as they stand: which one is at rank i
@@ -43,9 +41,9 @@ unfoldable pub region_work : ℕ → ℕ
 region_work L = 3 * table_size L + 4 * (basis_size L * basis_size L) + 5 * basis_size L
 
 -- the checks of the nodes; then SPACE of the working list and the three outputs
-unfoldable pub region_check : (L nodes weights lats marks s c work concentrations cs ss : ℕ) → Answer
+unfoldable pub region_check : (L nodes weights lats marks s c work concentrations cs ss : ℕ) → Result ⊤ Refusal
 region_check L nodes weights lats marks s c work concentrations cs ss =
     nodes_check L nodes weights lats marks s c
     and_then refuse (ltb work (region_work L)) Space
     (refuse (ltb concentrations (basis_size L)) Space
-    (refuse (ltb cs (basis_size L * table_size L)) Space (refuse (ltb ss (basis_size L * table_size L)) Space Done)))
+    (refuse (ltb cs (basis_size L * table_size L)) Space (refuse (ltb ss (basis_size L * table_size L)) Space (Ok tt))))

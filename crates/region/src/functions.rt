@@ -32,10 +32,8 @@ fn write_degree(sine: bool, l: usize, at: usize, w: &[f64], to: usize, out: &mut
     ensures { Filled to (number_in sine w.now at) (l + 1) out.old out.new }
 {
     let count = l + 1;
-    let mut m = 0;
-    while m < count {
+    for m in 0..count {
         out[to + m] = number_of(sine, m, at, w);
-        m = m + 1;
     }
 }
 
@@ -48,12 +46,10 @@ fn write_function(sine: bool, lmax: usize, start: usize, w: &[f64], to: usize, o
 {
     let mut at = start;
     let mut row = to;
-    let mut l = 0;
-    while l <= lmax {
+    for l in 0..lmax + 1 {
         write_degree(sine, l, at, w, row, out);
         at = at + l + l + 1;
         row = row + l + 1;
-        l = l + 1;
     }
 }
 
@@ -78,12 +74,10 @@ pub fn write_functions(
         out.old out.new }
 {
     let mut to = 0;
-    let mut i = 0;
-    while i < n {
-        let place = ranking::index(places[i]);
+    for i in 0..n {
+        let place = usize::from(places[i]);
         write_function(sine, lmax, at + matrix::row(n, place), w, to, out);
         to = to + table;
-        i = i + 1;
     }
 }
 
@@ -94,10 +88,8 @@ pub fn write_values(n: usize, places: &[u16], values: &[f64], out: &mut [f64])
     requires fact_3 { n ≤ length out.old }
     ensures { Filled 0 (picked_value places.now values.now) n out.old out.new }
 {
-    let mut i = 0;
-    while i < n {
-        let place = ranking::index(places[i]);
+    for i in 0..n {
+        let place = usize::from(places[i]);
         out[i] = values[place];
-        i = i + 1;
     }
 }

@@ -5,19 +5,19 @@ mod functions;
 mod solve;
 
 ghost use Rattle.std.specs.Prelude.{◌≡◌, true, false, ◌*◌, ◌≤◌, length};
-ghost use Rattle.refusal.specs.Numbers.{after, behind};
+ghost use Rattle.refusal.specs.Numbers.{after, behind, outcome, value_if};
 ghost use Rattle.storage.specs.Fill.{fill};
 ghost use Rattle.storage.specs.Rectangle.{by_rows};
 ghost use Rattle.storage.specs.Triangle.{table_size};
 ghost use Rattle.linalg.specs.Eigen.{eigen_limit};
-ghost use Rattle.linalg.specs.Solution.{outcome, solution_if, count_in};
+ghost use Rattle.linalg.specs.Solution.{count_in};
 ghost use Rattle.region_nodes.specs.Basis.{basis_size};
 ghost use Rattle.region_nodes.specs.Regions.{concentration_matrix};
 ghost use Rattle.region.specs.Region.{region_work, region_check, region_convergence, concentration_at, numbers_at};
 ghost use Rattle.region.specs.Storage.{Sized};
 
-use linalg::Solution;
-use refusal::{Answer, Refusal};
+use linalg::Convergence;
+use refusal::Refusal;
 
 // How many functions there are, how many numbers c each has and all have, and how much of the working list is used.
 #[derive(Clone, Copy)]
@@ -56,28 +56,24 @@ fn region_check(
     concentrations: usize,
     cs: usize,
     ss: usize,
-) -> Answer
+) -> Result<(), Refusal>
     ensures { result ≡ region_check lmax nodes weights latitudes marks s c work concentrations cs ss }
 {
-    match regions::nodes_check(lmax, nodes, weights, latitudes, marks, s, c) {
-        Answer::Refused(e) => Answer::Refused(e),
-        Answer::Done => {
-            let sizes = region_sizes(lmax);
-            if work < sizes.work {
-                return Answer::Refused(Refusal::Space);
-            }
-            if concentrations < sizes.functions {
-                return Answer::Refused(Refusal::Space);
-            }
-            if cs < sizes.numbers {
-                return Answer::Refused(Refusal::Space);
-            }
-            if ss < sizes.numbers {
-                return Answer::Refused(Refusal::Space);
-            }
-            Answer::Done
-        }
+    regions::nodes_check(lmax, nodes, weights, latitudes, marks, s, c)?;
+    let sizes = region_sizes(lmax);
+    if work < sizes.work {
+        return Err(Refusal::Space);
     }
+    if concentrations < sizes.functions {
+        return Err(Refusal::Space);
+    }
+    if cs < sizes.numbers {
+        return Err(Refusal::Space);
+    }
+    if ss < sizes.numbers {
+        return Err(Refusal::Space);
+    }
+    Ok(())
 }
 
 // The Slepian functions of a region to degree lmax, best concentrated first: their concentrations, and their coefficients of P(l, m) cos mλ, in cs, and
@@ -95,8 +91,8 @@ pub fn region(
     concentrations: &mut [f64],
     cs: &mut [f64],
     ss: &mut [f64],
-) -> Solution
-    ensures value_1 { result ≡ solution_if
+) -> Result<Convergence, Refusal>
+    ensures value_1 { result ≡ value_if
         (region_check lmax nodes (length weights.now) (length latitudes.now) (length marks.now)
         (length s.now) (length c.now) (length work.old) (length concentrations.old)
         (length cs.old) (length ss.old))
@@ -121,7 +117,7 @@ pub fn region(
     ensures work_unchanged_1 { behind (outcome result) (region_work lmax) work.new ≡ behind (outcome result) (region_work lmax) work.old }
     ensures work_unchanged_2 { length work.new ≡ length work.old }
 {
-    match region_check(
+    region_check(
         lmax,
         nodes,
         weights.len(),
@@ -133,20 +129,18 @@ pub fn region(
         concentrations.len(),
         cs.len(),
         ss.len(),
-    ) {
-        Answer::Refused(e) => Solution::Refused(e),
-        Answer::Done => Solution::Solved(solve::compute(
-            lmax,
-            nodes,
-            weights,
-            latitudes,
-            marks,
-            s,
-            c,
-            work,
-            concentrations,
-            cs,
-            ss,
-        )),
-    }
+    )?;
+    Ok(solve::compute(
+        lmax,
+        nodes,
+        weights,
+        latitudes,
+        marks,
+        s,
+        c,
+        work,
+        concentrations,
+        cs,
+        ss,
+    ))
 }

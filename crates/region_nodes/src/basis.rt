@@ -32,10 +32,8 @@ fn functions_of(l: usize, start: usize, at: usize, p: &[f64], functions: &mut [f
     ensures { Filled at (in_row start p.now) (l + l + 1) functions.old functions.new }
 {
     let count = l + l + 1;
-    let mut r = 0;
-    while r < count {
+    for r in 0..count {
         functions[at + r] = p[start + order_in(r)];
-        r = r + 1;
     }
 }
 
@@ -48,11 +46,9 @@ pub fn functions(lmax: usize, p: &[f64], functions: &mut [f64])
 {
     let mut start = 0;
     let mut at = 0;
-    let mut l = 0;
-    while l <= lmax {
+    for l in 0..lmax + 1 {
         functions_of(l, start, at, p, functions);
         start = start + l + 1;
         at = at + l + l + 1;
-        l = l + 1;
     }
 }

@@ -71,10 +71,8 @@ fn product_row(
     let count = lmax + lmax + 1;
     let order = order_in(a);
     let sine = sine_in(a);
-    let mut b = 0;
-    while b < count {
+    for b in 0..count {
         products[to + b] = longitude_product(at, order, sine, order_in(b), sine_in(b), s, c);
-        b = b + 1;
     }
 }
 
@@ -88,9 +86,7 @@ pub fn products(lmax: usize, at: usize, s: &[f64], c: &[f64], products: &mut [f6
         (integrals lmax * integrals lmax) products.old products.new }
 {
     let count = lmax + lmax + 1;
-    let mut a = 0;
-    while a < count {
+    for a in 0..count {
         product_row(lmax, at, a, matrix::row(count, a), s, c, products);
-        a = a + 1;
     }
 }

@@ -13,7 +13,7 @@ ghost use Rattle.region_nodes.specs.Basis.{basis_size};
 ghost use Rattle.region_nodes.specs.Regions.{region_cell};
 ghost use Rattle.regions.specs.Checks.{nodes_check_to, nodes_check, matrix_check, Symmetric};
 
-use refusal::{Answer, Refusal};
+use refusal::Refusal;
 
 // The highest degree of a region's functions, and the most nodes.
 pub const MAX_REGION: usize = 21;
@@ -30,33 +30,33 @@ pub fn nodes_check_to(
     marks: usize,
     s: usize,
     c: usize,
-) -> Answer
+) -> Result<(), Refusal>
     requires { most ≤ 2700 }
     ensures { result ≡ nodes_check_to most lmax nodes weights latitudes marks s c }
 {
     if lmax > most {
-        return Answer::Refused(Refusal::Size);
+        return Err(Refusal::Size);
     }
     if nodes > MAX_REGION_NODES {
-        return Answer::Refused(Refusal::Size);
+        return Err(Refusal::Size);
     }
     if weights != nodes {
-        return Answer::Refused(Refusal::Length);
+        return Err(Refusal::Length);
     }
     if latitudes != nodes + nodes {
-        return Answer::Refused(Refusal::Length);
+        return Err(Refusal::Length);
     }
     if marks != nodes {
-        return Answer::Refused(Refusal::Length);
+        return Err(Refusal::Length);
     }
     let integrals = nodes * (lmax + lmax + 1);
     if s != integrals {
-        return Answer::Refused(Refusal::Length);
+        return Err(Refusal::Length);
     }
     if c != integrals {
-        return Answer::Refused(Refusal::Length);
+        return Err(Refusal::Length);
     }
-    Answer::Done
+    Ok(())
 }
 
 // The same for a region's functions.
@@ -68,7 +68,7 @@ pub fn nodes_check(
     marks: usize,
     s: usize,
     c: usize,
-) -> Answer
+) -> Result<(), Refusal>
     ensures { result ≡ nodes_check lmax nodes weights latitudes marks s c }
 {
     nodes_check_to(MAX_REGION, lmax, nodes, weights, latitudes, marks, s, c)
@@ -94,22 +94,18 @@ fn matrix_check(
     c: usize,
     work: usize,
     matrix: usize,
-) -> Answer
+) -> Result<(), Refusal>
     ensures { result ≡ matrix_check lmax nodes weights latitudes marks s c work matrix }
 {
-    match nodes_check(lmax, nodes, weights, latitudes, marks, s, c) {
-        Answer::Refused(e) => Answer::Refused(e),
-        Answer::Done => {
-            let n = basis_size(lmax);
-            if work < 3 * storage::table_size(lmax) {
-                return Answer::Refused(Refusal::Space);
-            }
-            if matrix < n * n {
-                return Answer::Refused(Refusal::Space);
-            }
-            Answer::Done
-        }
+    nodes_check(lmax, nodes, weights, latitudes, marks, s, c)?;
+    let n = basis_size(lmax);
+    if work < 3 * storage::table_size(lmax) {
+        return Err(Refusal::Space);
     }
+    if matrix < n * n {
+        return Err(Refusal::Space);
+    }
+    Ok(())
 }
 
 // The concentration matrix of a region to degree lmax, row by row over the basis. For each node there are lent its weight, the sine and the cosine of
@@ -125,7 +121,7 @@ pub fn concentration_matrix(
     c: &[f64],
     work: &mut [f64],
     matrix: &mut [f64],
-) -> Answer
+) -> Result<(), Refusal>
     ensures value { result ≡ matrix_check lmax nodes (length weights.now) (length latitudes.now) (length marks.now)
         (length s.now) (length c.now) (length work.old) (length matrix.old) }
     ensures matrix_after { matrix.new ≡ after result
@@ -135,7 +131,7 @@ pub fn concentration_matrix(
     ensures symmetric { Symmetric result (basis_size lmax) matrix.new }
     ensures work_unchanged { work.new ≡ work.old }
 {
-    match matrix_check(
+    matrix_check(
         lmax,
         nodes,
         weights.len(),
@@ -145,11 +141,7 @@ pub fn concentration_matrix(
         c.len(),
         work.len(),
         matrix.len(),
-    ) {
-        Answer::Refused(e) => Answer::Refused(e),
-        Answer::Done => {
-            whole::fill_matrix(lmax, nodes, weights, latitudes, marks, s, c, matrix);
-            Answer::Done
-        }
-    }
+    )?;
+    whole::fill_matrix(lmax, nodes, weights, latitudes, marks, s, c, matrix);
+    Ok(())
 }

@@ -66,11 +66,9 @@ pub fn add_nodes(
 {
     let n = crate::basis_size(lmax);
     storage::clear(n * n, d);
-    let mut v = 0;
-    while v < nodes {
+    for v in 0..nodes {
         node(
             lmax, v, nodes, weights, latitudes, marks, s, c, a, b, p, functions, products, d,
         );
-        v = v + 1;
     }
 }

@@ -24,10 +24,8 @@ fn add_run(
     ensures { Filled at (added_run x first row at functions.now products.now d.old) count
         d.old d.new }
 {
-    let mut r = 0;
-    while r < count {
+    for r in 0..count {
         d[at + r] = d[at + r] + x * functions[first + r] * products[row + r];
-        r = r + 1;
     }
 }
 
@@ -53,11 +51,9 @@ fn add_row(
         d.old d.new }
 {
     let mut first = 0;
-    let mut k = 0;
-    while k < l {
+    for k in 0..l {
         add_run(k + k + 1, x, first, row, at + first, functions, products, d);
         first = first + k + k + 1;
-        k = k + 1;
     }
     add_run(a + 1, x, first, row, at + first, functions, products, d);
 }
@@ -101,8 +97,7 @@ pub fn add_node(
 {
     let mut l = 0;
     let mut a = 0;
-    let mut i = 0;
-    while i < n {
+    for i in 0..n {
         let x = weight * functions[i];
         add_row(
             lmax,
@@ -118,6 +113,5 @@ pub fn add_node(
         let next = next_place(l, a);
         l = next.l;
         a = next.a;
-        i = i + 1;
     }
 }

@@ -14,10 +14,8 @@ pub fn divide(size: usize, d: &mut [f64])
     requires { size ≤ length d.old }
     ensures { Filled 0 (over_four_pi d.old) size d.old d.new }
 {
-    let mut i = 0;
-    while i < size {
+    for i in 0..size {
         d[i] = d[i] / 12.566370614359172;
-        i = i + 1;
     }
 }
 
@@ -28,11 +26,9 @@ fn mirror_row(n: usize, i: usize, at: usize, d: &mut [f64])
     requires fact_3 { at ≡ i * n + (i + 1) }
     ensures { Filled at (below_diagonal n i d.old) (n - (i + 1)) d.old d.new }
 {
-    let mut k = 0;
-    while i + 1 + k < n {
+    for k in 0..n - (i + 1) {
         let from = matrix::cell(n, i + 1 + k, i);
         d[at + k] = d[from];
-        k = k + 1;
     }
 }
 
@@ -41,10 +37,8 @@ fn mirror(n: usize, d: &mut [f64])
     requires { Room n d.old }
     ensures { Filled 0 (by_rows (mirrored n d.old) n) (n * n) d.old d.new }
 {
-    let mut i = 0;
-    while i < n {
+    for i in 0..n {
         mirror_row(n, i, matrix::row(n, i) + (i + 1), d);
-        i = i + 1;
     }
 }
 

@@ -2,75 +2,73 @@
 // line says is made by the function that compares.
 #![tactic(auto)]
 
-ghost use Rattle.std.specs.Prelude.{◌≡◌, cond, ℕ, ◌+◌, ◌≤◌, length};
+ghost use Rattle.std.specs.Prelude.{◌≡◌, ℕ, ◌+◌, ◌≤◌, length};
 ghost use Rattle.storage.specs.Filled.{Filled};
 ghost use Rattle.storage.specs.Store.{store};
 ghost use Rattle.text.specs.Stored.{Prefix};
 ghost use Rattle.replay.specs.Answers.{number_at, numbers_due, words_due};
 ghost use Rattle.replay.specs.Line.{line_of, numbers_line, words_line};
 
-fn one_if(b: bool) -> usize
-    ensures value { result ≡ cond b 1 0 }
-    ensures upper_bound { result ≤ 1 }
-{
-    if b { 1 } else { 0 }
-}
-
 // The numbers of the bit patterns from index `at` on, as many as `out` has places.
 pub fn load(words: &[u64], at: usize, out: &mut [f64])
     requires { at + length out.old ≤ length words.now }
     ensures { Filled 0 (number_at words.now at) (length out.old) out.old out.new }
 {
-    let mut i = 0;
-    while i < out.len() {
+    for i in 0..out.len() {
         out[i] = number::number_of_bits(words[at + i]);
-        i = i + 1;
     }
 }
 
+// The numbers of a list of bit patterns.
+pub fn numbers<const N: usize>(words: &[u64; N]) -> [f64; N]
+    ensures { (old : _) × (length old ≡ N) × Filled 0 (number_at words.now 0) N old result }
+{
+    let mut out = [0.0; N];
+    load(words, 0, &mut out);
+    out
+}
+
 // How many numbers of a list have the bit patterns from index `at` on.
+#[tactic(auto, using(storage::specs::Fold::fold_none, storage::specs::Fold::fold_more), unfolding(crate::specs::Answers::agrees_at))]
 fn same(list: &[f64], words: &[u64], at: usize) -> usize
     requires { at + length list.now ≤ length words.now }
     ensures { result ≡ numbers_due list.now words.now at }
 {
     let mut right: usize = 0;
-    let mut i = 0;
-    while i < list.len() {
-        right = right + one_if(number::bits_of_number(list[i]) == words[at + i]);
-        i = i + 1;
+    for i in 0..list.len() {
+        right = right + usize::from(number::bits_of_number(list[i]) == words[at + i]);
     }
     right
 }
 
 // How many words of a list are those from index `at` on.
+#[tactic(auto, using(storage::specs::Fold::fold_none, storage::specs::Fold::fold_more), unfolding(crate::specs::Answers::equal_at))]
 fn same_words(list: &[u64], words: &[u64], at: usize) -> usize
     requires { at + length list.now ≤ length words.now }
     ensures { result ≡ words_due list.now words.now at }
 {
     let mut right: usize = 0;
-    let mut i = 0;
-    while i < list.len() {
-        right = right + one_if(list[i] == words[at + i]);
-        i = i + 1;
+    for i in 0..list.len() {
+        right = right + usize::from(list[i] == words[at + i]);
     }
     right
 }
 
 // The same of bytes.
+#[tactic(auto, using(storage::specs::Fold::fold_none, storage::specs::Fold::fold_more), unfolding(crate::specs::Answers::equal_at))]
 fn same_bytes(list: &[u8], bytes: &[u8], at: usize) -> usize
     requires { at + length list.now ≤ length bytes.now }
     ensures { result ≡ words_due list.now bytes.now at }
 {
     let mut right: usize = 0;
-    let mut i = 0;
-    while i < list.len() {
-        right = right + one_if(list[i] == bytes[at + i]);
-        i = i + 1;
+    for i in 0..list.len() {
+        right = right + usize::from(list[i] == bytes[at + i]);
     }
     right
 }
 
 // Stores a line at the front of out, and answers where it ends.
+#[tactic(auto, using(text::specs::Digits::length_word))]
 fn write_line(name: &[u8], right: usize, all: usize, out: &mut [u8]) -> usize
     requires { length name.now + 45 ≤ length out.old }
     ensures value { result ≡ length (line_of name.now right all) }

@@ -8,9 +8,9 @@ mod polygon_answers;
 mod refusals;
 mod told;
 
-use std::io::Result;
+use std::io;
 
-fn main(rt: HostRuntime) -> Result<()> {
+fn main(rt: HostRuntime) -> io::Result<()> {
     let stdout = rt.stdout();
     replay_cases::control(stdout)?;
     outlines::show_outlines(stdout)?;

@@ -5,25 +5,27 @@ ghost use Rattle.std.specs.Prelude.{◌+◌, ◌*◌, ◌≤◌, length};
 use crate::polygon_answers as answers;
 use geopotential::basins::{geopotential_polygon_breaks, geopotential_polygon_intervals};
 use number::bits_of_number;
-use replay_cases::MARK;
+use replay::numbers;
+use replay_cases::{MARK, MARK_LENGTH};
 use replay_print::{show, show_words};
-use std::io::{Result, Stdout};
+use std::io;
+use std::io::Stdout;
 
-// What stands in the number that tells how many there are before a call.
-const MARK_COUNT: usize = 1234;
-
-// What a call handed on, whose ten words are due from index `at` on.
-fn show_answer(
+// What an entry hands on of an outline of up to eight vertices: ten words, due from index `at` on.
+fn show_answer<F: FnOnce(&mut [f64], &mut [f64], &mut usize) -> u32>(
     stdout: Stdout,
     name: &[u8],
-    number: u32,
-    count: usize,
-    out: &[f64; 8],
+    entry: F,
     due: &[u64],
     at: usize,
-) -> Result<()>
-    requires { (length name.now ≤ 80) × (at + 10 ≤ length due.now) }
+) -> io::Result<()>
+    requires entry { F.IsAlwaysCallable entry }
+    requires bounds { (length name.now ≤ 80) × (at + 10 ≤ length due.now) }
 {
+    let mut work = [MARK; 8];
+    let mut out = [MARK; 8];
+    let mut count = MARK_LENGTH;
+    let number = entry(&mut work, &mut out, &mut count);
     let words = [
         number as u64,
         count as u64,
@@ -39,7 +41,7 @@ fn show_answer(
     show_words(stdout, name, &words, due, at)
 }
 
-// The intervals at one colatitude of an outline of up to eight vertices.
+// The intervals at one colatitude.
 fn show_intervals(
     stdout: Stdout,
     name: &[u8],
@@ -48,16 +50,18 @@ fn show_intervals(
     theta: f64,
     due: &[u64],
     at: usize,
-) -> Result<()>
+) -> io::Result<()>
     requires { (length name.now ≤ 80) × (at + 10 ≤ length due.now) }
 {
-    let mut work = [MARK; 8];
-    let mut out = [MARK; 8];
-    let mut count = MARK_COUNT;
-    let number = geopotential_polygon_intervals(
-        vertices, outline, theta, &mut work, &mut out, &mut count,
-    );
-    show_answer(stdout, name, number, count, &out, due, at)
+    show_answer(
+        stdout,
+        name,
+        |work, out, count| {
+            geopotential_polygon_intervals(vertices, outline, theta, work, out, count)
+        },
+        due,
+        at,
+    )
 }
 
 // At each of some colatitudes.
@@ -68,16 +72,14 @@ fn show_cuts(
     outline: &[f64],
     colatitudes: &[u64],
     due: &[u64],
-) -> Result<()>
+) -> io::Result<()>
     requires fact_1 { length name.now ≤ 80 }
     requires fact_2 { 10 * length colatitudes.now ≤ length due.now }
     requires fact_3 { length colatitudes.now ≤ 8 }
 {
-    let mut i = 0;
-    while i < colatitudes.len() {
-        let theta = number::number_of_bits(colatitudes[i]);
+    for (i, colatitude) in colatitudes.iter().enumerate() {
+        let theta = number::number_of_bits(*colatitude);
         show_intervals(stdout, name, vertices, outline, theta, due, 10 * i)?;
-        i = i + 1;
     }
     Ok(())
 }
@@ -89,19 +91,20 @@ fn show_breaks(
     vertices: usize,
     outline: &[f64],
     due: &[u64; 10],
-) -> Result<()>
+) -> io::Result<()>
     requires { length name.now ≤ 80 }
 {
-    let mut work = [MARK; 8];
-    let mut out = [MARK; 8];
-    let mut count = MARK_COUNT;
-    let number = geopotential_polygon_breaks(vertices, outline, &mut work, &mut out, &mut count);
-    show_answer(stdout, name, number, count, &out, due, 0)
+    show_answer(
+        stdout,
+        name,
+        |work, out, count| geopotential_polygon_breaks(vertices, outline, work, out, count),
+        due,
+        0,
+    )
 }
 
-fn show_concave(stdout: Stdout) -> Result<()> {
-    let mut outline = [0.0; 12];
-    replay::load(&answers::CONCAVE, 0, &mut outline);
+fn show_concave(stdout: Stdout) -> io::Result<()> {
+    let outline = numbers(&answers::CONCAVE);
     show_cuts(
         stdout,
         b"intervals, concave ",
@@ -120,9 +123,8 @@ fn show_concave(stdout: Stdout) -> Result<()> {
 }
 
 // One that crosses itself.
-fn show_star(stdout: Stdout) -> Result<()> {
-    let mut outline = [0.0; 10];
-    replay::load(&answers::STAR, 0, &mut outline);
+fn show_star(stdout: Stdout) -> io::Result<()> {
+    let outline = numbers(&answers::STAR);
     show_cuts(
         stdout,
         b"intervals, star ",
@@ -135,9 +137,8 @@ fn show_star(stdout: Stdout) -> Result<()> {
 }
 
 // One whose vertices share colatitudes.
-fn show_rectangle(stdout: Stdout) -> Result<()> {
-    let mut outline = [0.0; 8];
-    replay::load(&answers::RECTANGLE, 0, &mut outline);
+fn show_rectangle(stdout: Stdout) -> io::Result<()> {
+    let outline = numbers(&answers::RECTANGLE);
     show_cuts(
         stdout,
         b"intervals, rectangle ",
@@ -155,9 +156,8 @@ fn show_rectangle(stdout: Stdout) -> Result<()> {
     )
 }
 
-fn show_infinite(stdout: Stdout) -> Result<()> {
-    let mut outline = [0.0; 4];
-    replay::load(&answers::INFINITE, 0, &mut outline);
+fn show_infinite(stdout: Stdout) -> io::Result<()> {
+    let outline = numbers(&answers::INFINITE);
     show_cuts(
         stdout,
         b"intervals, infinite longitude ",
@@ -176,9 +176,8 @@ fn show_infinite(stdout: Stdout) -> Result<()> {
 }
 
 // One with a longitude that is NaN.
-fn show_lost(stdout: Stdout) -> Result<()> {
-    let mut outline = [0.0; 8];
-    replay::load(&answers::LOST, 0, &mut outline);
+fn show_lost(stdout: Stdout) -> io::Result<()> {
+    let outline = numbers(&answers::LOST);
     show_cuts(
         stdout,
         b"intervals, NaN longitude ",
@@ -197,9 +196,8 @@ fn show_lost(stdout: Stdout) -> Result<()> {
 }
 
 // Longitudes whose difference overflows.
-fn show_far(stdout: Stdout) -> Result<()> {
-    let mut outline = [0.0; 12];
-    replay::load(&answers::FAR, 0, &mut outline);
+fn show_far(stdout: Stdout) -> io::Result<()> {
+    let outline = numbers(&answers::FAR);
     show_cuts(
         stdout,
         b"intervals, far ",
@@ -212,9 +210,8 @@ fn show_far(stdout: Stdout) -> Result<()> {
 }
 
 // Latitudes that are NaN or infinite.
-fn show_nowhere(stdout: Stdout) -> Result<()> {
-    let mut outline = [0.0; 16];
-    replay::load(&answers::NOWHERE, 0, &mut outline);
+fn show_nowhere(stdout: Stdout) -> io::Result<()> {
+    let outline = numbers(&answers::NOWHERE);
     show_cuts(
         stdout,
         b"intervals, NaN latitude ",
@@ -233,9 +230,8 @@ fn show_nowhere(stdout: Stdout) -> Result<()> {
 }
 
 // Crossed at zeros of either sign.
-fn show_zeros(stdout: Stdout) -> Result<()> {
-    let mut outline = [0.0; 12];
-    replay::load(&answers::ZEROS, 0, &mut outline);
+fn show_zeros(stdout: Stdout) -> io::Result<()> {
+    let outline = numbers(&answers::ZEROS);
     show_cuts(
         stdout,
         b"intervals, zeros ",
@@ -254,9 +250,8 @@ fn show_zeros(stdout: Stdout) -> Result<()> {
 }
 
 // At a pole: the product of two differences is rounded to a zero.
-fn show_pole(stdout: Stdout) -> Result<()> {
-    let mut outline = [0.0; 6];
-    replay::load(&answers::POLE, 0, &mut outline);
+fn show_pole(stdout: Stdout) -> io::Result<()> {
+    let outline = numbers(&answers::POLE);
     show_cuts(
         stdout,
         b"intervals, pole ",
@@ -269,9 +264,8 @@ fn show_pole(stdout: Stdout) -> Result<()> {
 }
 
 // One whose crossings show which comes first, product or quotient.
-fn show_quotient(stdout: Stdout) -> Result<()> {
-    let mut outline = [0.0; 6];
-    replay::load(&answers::QUOTIENT, 0, &mut outline);
+fn show_quotient(stdout: Stdout) -> io::Result<()> {
+    let outline = numbers(&answers::QUOTIENT);
     show_cuts(
         stdout,
         b"intervals, quotient ",
@@ -290,7 +284,7 @@ fn show_quotient(stdout: Stdout) -> Result<()> {
 }
 
 // No vertices.
-fn show_empty(stdout: Stdout) -> Result<()> {
+fn show_empty(stdout: Stdout) -> io::Result<()> {
     let outline: [f64; 0] = [];
     show_cuts(
         stdout,
@@ -309,53 +303,44 @@ fn show_empty(stdout: Stdout) -> Result<()> {
     )
 }
 
-// More crossings than the short arrays have room for.
-fn show_long_intervals(stdout: Stdout, outline: &[f64; 132]) -> Result<()> {
-    let mut theta = [0.0; 1];
+// An outline with more vertices and crossings than the short arrays have room for.
+fn show_long_answer<F: FnOnce(&mut [f64], &mut [f64], &mut usize) -> u32>(
+    stdout: Stdout,
+    count_name: &[u8],
+    name: &[u8],
+    entry: F,
+    due: &[u64; 70],
+) -> io::Result<()>
+    requires entry { F.IsAlwaysCallable entry }
+    requires names { (length count_name.now ≤ 80) × (length name.now ≤ 80) }
+{
     let mut work = [MARK; 66];
     let mut out = [MARK; 68];
-    let mut count = MARK_COUNT;
-    replay::load(&answers::LONG_COLATITUDES, 0, &mut theta);
-    let number = geopotential_polygon_intervals(
-        66, outline, theta[0], &mut work, &mut out, &mut count,
-    );
-    show_words(
+    let mut count = MARK_LENGTH;
+    let number = entry(&mut work, &mut out, &mut count);
+    show_words(stdout, count_name, &[number as u64, count as u64], due, 0)?;
+    show(stdout, name, &out, due, 2)
+}
+
+fn show_long(stdout: Stdout) -> io::Result<()> {
+    let outline = numbers(&answers::LONG);
+    let theta = numbers(&answers::LONG_COLATITUDES);
+    show_long_answer(
         stdout,
         b"intervals, long, count ",
-        &[number as u64, count as u64],
-        &answers::LONG_INTERVALS,
-        0,
-    )?;
-    show(
-        stdout,
         b"intervals, long ",
-        &out,
+        |work, out, count| {
+            geopotential_polygon_intervals(66, &outline, theta[0], work, out, count)
+        },
         &answers::LONG_INTERVALS,
-        2,
-    )
-}
-
-// More vertices.
-fn show_long_breaks(stdout: Stdout, outline: &[f64; 132]) -> Result<()> {
-    let mut work = [MARK; 66];
-    let mut out = [MARK; 68];
-    let mut count = MARK_COUNT;
-    let number = geopotential_polygon_breaks(66, outline, &mut work, &mut out, &mut count);
-    show_words(
+    )?;
+    show_long_answer(
         stdout,
         b"breaks, long, count ",
-        &[number as u64, count as u64],
+        b"breaks, long ",
+        |work, out, count| geopotential_polygon_breaks(66, &outline, work, out, count),
         &answers::LONG_BREAKS,
-        0,
-    )?;
-    show(stdout, b"breaks, long ", &out, &answers::LONG_BREAKS, 2)
-}
-
-fn show_long(stdout: Stdout) -> Result<()> {
-    let mut outline = [0.0; 132];
-    replay::load(&answers::LONG, 0, &mut outline);
-    show_long_intervals(stdout, &outline)?;
-    show_long_breaks(stdout, &outline)
+    )
 }
 
 // What a call with an output of one number handed on.
@@ -366,7 +351,7 @@ fn show_three(
     count: usize,
     out: &[f64; 1],
     due: &[u64; 3],
-) -> Result<()>
+) -> io::Result<()>
     requires { length name.now ≤ 80 }
 {
     let words = [number as u64, count as u64, bits_of_number(out[0])];
@@ -374,11 +359,11 @@ fn show_three(
 }
 
 // The most vertices, all of them one place.
-fn show_most(stdout: Stdout) -> Result<()> {
+fn show_most(stdout: Stdout) -> io::Result<()> {
     let outline = [0.0; 8192];
     let mut work = [MARK; 4096];
     let mut out = [MARK; 1];
-    let mut count = MARK_COUNT;
+    let mut count = MARK_LENGTH;
     let number = geopotential_polygon_intervals(
         4096, &outline, 1.0, &mut work, &mut out, &mut count,
     );
@@ -402,11 +387,11 @@ fn show_most(stdout: Stdout) -> Result<()> {
 }
 
 // One more.
-fn show_beyond(stdout: Stdout) -> Result<()> {
+fn show_beyond(stdout: Stdout) -> io::Result<()> {
     let outline = [0.0; 8194];
     let mut work = [MARK; 4097];
     let mut out = [MARK; 1];
-    let mut count = MARK_COUNT;
+    let mut count = MARK_LENGTH;
     let number = geopotential_polygon_intervals(
         4097, &outline, 1.0, &mut work, &mut out, &mut count,
     );
@@ -429,7 +414,7 @@ fn show_beyond(stdout: Stdout) -> Result<()> {
     )
 }
 
-pub fn show_outlines(stdout: Stdout) -> Result<()> {
+pub fn show_outlines(stdout: Stdout) -> io::Result<()> {
     show_concave(stdout)?;
     show_star(stdout)?;
     show_rectangle(stdout)?;

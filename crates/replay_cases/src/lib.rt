@@ -1,12 +1,15 @@
-// What the programs that replay refusals share: the columns of a case, how much of a list a call has changed, and the line of a call.
+// What the programs that replay the oracle's answers share: the columns of a case of a refusal, how much of a list a call has changed, the line of a call;
+// and the heads and latitudes of their models.
 #![tactic(auto)]
 
-ghost use Rattle.std.specs.Prelude.{◌+◌, ◌≤◌, length};
+ghost use Rattle.std.specs.Prelude.{◌+◌, ◌*◌, ◌<◌, ◌≤◌, length};
 
-use coefficients::{Date, Model};
+use coefficients::{Head, TideSystem};
 use functional::Functional;
-use refusal::{Answer, Number};
-use std::io::{Result, Stdout};
+use legendre::Latitude;
+use refusal::Refusal;
+use std::io;
+use std::io::Stdout;
 
 // What stands in every place of a list that is lent to be written.
 pub const MARK: f64 = 1234.5;
@@ -14,6 +17,8 @@ pub const MARK: f64 = 1234.5;
 pub const MARK_WORD: u64 = 0x5a5a_1234_5a5a_9876;
 
 pub const MARK_BYTE: u8 = 0xa5;
+
+pub const MARK_LENGTH: usize = 1234;
 
 // What is seen of a call: the number of its refusal, 0 where there is none, and what it has changed in the lists that it was lent.
 #[derive(Clone, Copy)]
@@ -32,12 +37,23 @@ pub fn size(case: &[u64], at: usize) -> usize {
     column(case, at) as usize
 }
 
+// The same as a byte.
+pub fn byte(case: &[u64], at: usize) -> u8 {
+    (column(case, at) % 256) as u8
+}
+
+// The same as a size, but `most` at most.
+pub fn within(case: &[u64], at: usize, most: usize) -> usize
+    ensures { result ≤ most }
+{
+    size(case, at).min(most)
+}
+
 // The same as the length of a list that is lent, which has room for 64.
 pub fn room(case: &[u64], at: usize) -> usize
     ensures { result ≤ 64 }
 {
-    let k = size(case, at);
-    if k <= 64 { k } else { 64 }
+    within(case, at, 64)
 }
 
 // The functional of a number, in the order of the enum.
@@ -52,12 +68,6 @@ pub fn functional(case: &[u64], at: usize) -> Functional {
     }
 }
 
-fn one_if(b: bool) -> u64
-    ensures { result ≤ 1 }
-{
-    if b { 1 } else { 0 }
-}
-
 // i + 1 where b holds, else what was before.
 fn last_if(b: bool, i: usize, before: usize) -> usize
     requires { (before ≤ i) × (i ≤ 64) }
@@ -66,52 +76,37 @@ fn last_if(b: bool, i: usize, before: usize) -> usize
     if b { i + 1 } else { before }
 }
 
-// Of a list from the place `from` on: how many places have another number than the mark, times 100, and the place behind the last of them.
+// Of a list from the place `from` on: how many places have another value than the mark, times 100, and the place behind the last of them.
+fn changed<T: PartialEq>(list: &[T; 64], mark: &T, from: usize) -> u64
+    ensures { result ≤ 6464 }
+{
+    let mut count: u64 = 0;
+    let mut end: usize = 0;
+    for i in from..64 {
+        let b = list[i] != *mark;
+        count = count + u64::from(b);
+        end = last_if(b, i, end);
+    }
+    100 * count + end as u64
+}
+
+// The same of numbers, of words and of bytes with their marks, of words and bytes of the whole list.
 pub fn touched(list: &[f64; 64], from: usize) -> u64
     ensures { result ≤ 6464 }
 {
-    let mut count: u64 = 0;
-    let mut end: usize = 0;
-    let mut i = from;
-    while i < 64 {
-        let b = list[i] != MARK;
-        count = count + one_if(b);
-        end = last_if(b, i, end);
-        i = i + 1;
-    }
-    100 * count + end as u64
+    changed(list, &MARK, from)
 }
 
-// The same of a list of words, whole.
 pub fn touched_words(list: &[u64; 64]) -> u64
     ensures { result ≤ 6464 }
 {
-    let mut count: u64 = 0;
-    let mut end: usize = 0;
-    let mut i: usize = 0;
-    while i < 64 {
-        let b = list[i] != MARK_WORD;
-        count = count + one_if(b);
-        end = last_if(b, i, end);
-        i = i + 1;
-    }
-    100 * count + end as u64
+    changed(list, &MARK_WORD, 0)
 }
 
-// The same of a list of bytes.
 pub fn touched_bytes(list: &[u8; 64]) -> u64
     ensures { result ≤ 6464 }
 {
-    let mut count: u64 = 0;
-    let mut end: usize = 0;
-    let mut i: usize = 0;
-    while i < 64 {
-        let b = list[i] != MARK_BYTE;
-        count = count + one_if(b);
-        end = last_if(b, i, end);
-        i = i + 1;
-    }
-    100 * count + end as u64
+    changed(list, &MARK_BYTE, 0)
 }
 
 // What was seen of up to three outputs, four decimal digits for each, and in the digits above them of a fourth or of what lies behind a working list's
@@ -123,33 +118,62 @@ pub fn joined(first: u64, second: u64, third: u64, others: u64) -> u64
 }
 
 // 0, or the number of the refusal.
-pub fn of_answer(a: Answer) -> u64 {
-    refusal::answer_number(a) as u64
+pub fn of_result<T: Copy>(a: Result<T, Refusal>) -> u64 {
+    u64::from(refusal::result_number(a))
 }
 
-pub fn of_model(a: Model) -> u64 {
-    coefficients::model_number(a) as u64
-}
-
-pub fn of_number(a: Number) -> u64 {
+// The bits of an answer; those of a signalling NaN, which no answer has, for a refusal.
+pub fn bits(a: Result<f64, Refusal>) -> u64 {
     match a {
-        Number::Refused(e) => refusal::refusal_number(e) as u64,
-        Number::Value(_) => 0,
+        Ok(x) => number::bits_of_number(x),
+        Err(_) => 0x7ff0_0000_0000_0001,
+    }
+}
+
+// The pair of a latitude by its bit patterns, at place i of a list of pairs.
+pub fn latitude_of(words: &[u64], i: usize) -> Latitude
+    requires { 2 * i + 2 ≤ length words.now }
+{
+    Latitude {
+        t: number::number_of_bits(words[2 * i]),
+        u: number::number_of_bits(words[2 * i + 1]),
+    }
+}
+
+// The head of the oracle's models of degree `nmax`.
+pub fn earth(nmax: usize) -> Head {
+    Head {
+        gm: 398600441500000.0,
+        radius: 6378136.3,
+        tide_system: TideSystem::Unknown,
+        date: None,
+        nmax,
+    }
+}
+
+// The head of the models of the refusals.
+pub fn head_of(nmax: usize) -> Head {
+    Head {
+        gm: 3.5,
+        radius: 7.25,
+        tide_system: TideSystem::ZeroTide,
+        date: None,
+        nmax,
     }
 }
 
 // The dates of the cases by their numbers.
-pub fn date_of(number: u64) -> Date {
+pub fn date_of(number: u64) -> Option<i32> {
     match number {
-        0 => Date::None,
-        1 => Date::Days(0),
-        2 => Date::Days(1),
-        3 => Date::Days(-1),
-        4 => Date::Days(8840),
-        5 => Date::Days(2147483647),
-        6 => Date::Days(-2147483648),
-        7 => Date::Days(16909060),
-        _ => Date::Days(-1985229329),
+        0 => None,
+        1 => Some(0),
+        2 => Some(1),
+        3 => Some(-1),
+        4 => Some(8840),
+        5 => Some(2147483647),
+        6 => Some(-2147483648),
+        7 => Some(16909060),
+        _ => Some(-1985229329),
     }
 }
 
@@ -177,24 +201,24 @@ fn days_number(days: i32) -> u64 {
 }
 
 // The number of a date: 0 for none, else that of its day count.
-pub fn date_number(date: Date) -> u64 {
+pub fn date_number(date: Option<i32>) -> u64 {
     match date {
-        Date::None => 0,
-        Date::Days(days) => days_number(days),
+        None => 0,
+        Some(days) => days_number(days),
     }
 }
 
 // gm, radius, tide, N and date of a made model, zeros for a refusal.
-pub fn head_words(a: Model) -> [u64; 5] {
+pub fn head_words(a: Result<Head, Refusal>) -> [u64; 5] {
     match a {
-        Model::Refused(_) => [0; 5],
-        Model::Made(h) => {
+        Err(_) => [0; 5],
+        Ok(h) => {
             let tide = h.tide_system;
             let date = h.date;
             [
                 number::bits_of_number(h.gm),
                 number::bits_of_number(h.radius),
-                coefficients::tide_number(tide) as u64,
+                u64::from(u32::from(tide)),
                 h.nmax as u64,
                 date_number(date),
             ]
@@ -203,7 +227,7 @@ pub fn head_words(a: Model) -> [u64; 5] {
 }
 
 // The line of a call's words, the first of `words`, and those due.
-pub fn print_line(stdout: Stdout, name: &[u8], words: &[u64], due: &[u64]) -> Result<()>
+pub fn print_line(stdout: Stdout, name: &[u8], words: &[u64], due: &[u64]) -> io::Result<()>
     requires fact_1 { length name.now ≤ 80 }
     requires fact_2 { length due.now ≤ length words.now }
 {
@@ -211,8 +235,52 @@ pub fn print_line(stdout: Stdout, name: &[u8], words: &[u64], due: &[u64]) -> Re
     replay_print::show_words(stdout, name, &words[..k], due, 0)
 }
 
+// The line of a call: the two words that are seen of each of its cases, `columns` words each, and those due.
+pub fn print_cases<F: Fn(&[u64]) -> Seen>(
+    stdout: Stdout,
+    name: &[u8],
+    columns: usize,
+    see: F,
+    cases: &[u64],
+    due: &[u64],
+) -> io::Result<()>
+    requires name { length name.now ≤ 80 }
+    requires columns { 0 < columns }
+    requires see { F.IsAlwaysCallable see }
+    requires cases { length cases.now ≤ 100 * columns }
+    requires due { length due.now ≤ 200 }
+{
+    let mut words = [0u64; 200];
+    for (case, two) in cases.chunks_exact(columns).zip(words.chunks_exact_mut(2)) {
+        let seen = see(case);
+        two[0] = seen.number;
+        two[1] = seen.touched;
+    }
+    print_line(stdout, name, &words, due)
+}
+
+// The line of what is told of the lengths of a call's lists: the refusal's number, and all that the list of lengths holds afterwards, as many as are due.
+pub fn print_lengths<F: FnOnce(&mut [usize]) -> u32>(
+    stdout: Stdout,
+    name: &[u8],
+    tell: F,
+    due: &[u64],
+) -> io::Result<()>
+    requires name { length name.now ≤ 80 }
+    requires tell { F.IsAlwaysCallable tell }
+    requires due { (1 ≤ length due.now) × (length due.now ≤ 12) }
+{
+    let mut lengths = [MARK_LENGTH; 11];
+    let mut words = [0u64; 12];
+    words[0] = u64::from(tell(&mut lengths[..due.len() - 1]));
+    for (x, n) in words[1..].iter_mut().zip(lengths) {
+        *x = n as u64;
+    }
+    print_line(stdout, name, &words, due)
+}
+
 // The control lines of `replay_print`, and one by `print_line`: its second word is not the one due, and it must say "1 of 2".
-pub fn control(stdout: Stdout) -> Result<()> {
+pub fn control(stdout: Stdout) -> io::Result<()> {
     replay_print::control(stdout)?;
     print_line(stdout, b"control of cases ", &[1, 2, 0], &[1, 3])
 }

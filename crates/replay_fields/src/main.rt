@@ -7,21 +7,12 @@ mod grids;
 
 ghost use Rattle.std.specs.Prelude.{◌+◌, ◌<◌, ◌≤◌, length};
 
-use coefficients::{Date, Head, TideSystem};
 use functional::Functional;
-use refusal::{Answer, Number};
-use replay_print::{show, show_words};
-use std::io::{Result, Stdout};
-
-fn head_of(nmax: usize) -> Head {
-    Head {
-        gm: 398600441500000.0,
-        radius: 6378136.3,
-        tide_system: TideSystem::Unknown,
-        date: Date::None,
-        nmax,
-    }
-}
+use replay::numbers;
+use replay_cases::{bits, earth};
+use replay_print::{show, show_front, show_words};
+use std::io;
+use std::io::Stdout;
 
 // A grid of three rows and nine longitudes.
 fn show_grid(
@@ -30,21 +21,16 @@ fn show_grid(
     cbits: &[u64; 10],
     sbits: &[u64; 10],
     words: &[u64; 27],
-) -> Result<()> {
-    let mut c = [0.0; 10];
-    let mut s = [0.0; 10];
-    let mut love = [0.0; 4];
-    let mut latitudes = [0.0; 6];
-    let mut trig = [0.0; 72];
-    replay::load(cbits, 0, &mut c);
-    replay::load(sbits, 0, &mut s);
-    replay::load(&grids::LOVE, 0, &mut love);
-    replay::load(&grids::LATITUDES, 0, &mut latitudes);
-    replay::load(&grids::TRIG, 0, &mut trig);
+) -> io::Result<()> {
+    let c = numbers(cbits);
+    let s = numbers(sbits);
+    let love = numbers(&grids::LOVE);
+    let latitudes = numbers(&grids::LATITUDES);
+    let trig = numbers(&grids::TRIG);
     let mut work = [0.0; 42];
     let mut out = [0.0; 27];
     match synthesis::grid(
-        head_of(3),
+        earth(3),
         &c,
         &s,
         functional,
@@ -57,8 +43,8 @@ fn show_grid(
         &mut work,
         &mut out,
     ) {
-        Answer::Done => show(stdout, b"grid ", &out, words, 0)?,
-        Answer::Refused(_) => {
+        Ok(()) => show(stdout, b"grid ", &out, words, 0)?,
+        Err(_) => {
             replay_print::print(stdout, b"grid refused\n")?;
         }
     }
@@ -69,10 +55,8 @@ fn show_grid(
 fn pattern(shift: usize, out: &mut [f64])
     requires { shift < 101 }
 {
-    let mut k = 0;
-    while k < out.len() {
-        out[k] = exact((37 * (k % 101) + shift) % 101);
-        k += 1;
+    for (k, x) in out.iter_mut().enumerate() {
+        *x = exact((37 * (k % 101) + shift) % 101);
     }
 }
 
@@ -83,19 +67,18 @@ fn exact(k: usize) -> f64
 }
 
 // A grid of a field of degree 130 with three rows and two longitudes.
-fn show_large_grid(stdout: Stdout) -> Result<()> {
+fn show_large_grid(stdout: Stdout) -> io::Result<()> {
     let mut c = [0.0; 8646];
     let mut s = [0.0; 8646];
-    let mut latitudes = [0.0; 6];
     let mut trig = [0.0; 524];
     pattern(0, &mut c);
     pattern(50, &mut s);
-    replay::load(&grids::LATITUDES, 0, &mut latitudes);
+    let latitudes = numbers(&grids::LATITUDES);
     pattern(77, &mut trig);
     let mut work = [0.0; 26331];
     let mut out = [0.0; 6];
     match synthesis::grid(
-        head_of(130),
+        earth(130),
         &c,
         &s,
         Functional::GeoidHeight,
@@ -108,14 +91,14 @@ fn show_large_grid(stdout: Stdout) -> Result<()> {
         &mut work,
         &mut out,
     ) {
-        Answer::Done => show(
+        Ok(()) => show(
             stdout,
             b"grid of degree 130 ",
             &out,
             &grids::LARGE_GEOID_HEIGHT,
             0,
         )?,
-        Answer::Refused(_) => {
+        Err(_) => {
             replay_print::print(stdout, b"grid 130 refused\n")?;
         }
     }
@@ -130,23 +113,18 @@ fn average(
     kc: &[f64; 6],
     ks: &[f64; 6],
 ) -> u64 {
-    let mut love = [0.0; 4];
-    replay::load(&averages::LOVE, 0, &mut love);
-    let field = head_of(3);
-    match slepian::basin_average(
-        field,
+    let love = numbers(&averages::LOVE);
+    bits(slepian::basin_average(
+        earth(3),
         c,
         s,
-        head_of(2),
+        earth(2),
         kc,
         ks,
         functional,
         &love,
         6378200.0,
-    ) {
-        Number::Value(x) => number::bits_of_number(x),
-        Number::Refused(_) => 0x7ff0_0000_0000_0001,
-    }
+    ))
 }
 
 // The averages of the six functionals.
@@ -157,15 +135,11 @@ fn show_averages(
     kcbits: &[u64; 6],
     ksbits: &[u64; 6],
     words: &[u64; 6],
-) -> Result<()> {
-    let mut c = [0.0; 10];
-    let mut s = [0.0; 10];
-    let mut kc = [0.0; 6];
-    let mut ks = [0.0; 6];
-    replay::load(cbits, 0, &mut c);
-    replay::load(sbits, 0, &mut s);
-    replay::load(kcbits, 0, &mut kc);
-    replay::load(ksbits, 0, &mut ks);
+) -> io::Result<()> {
+    let c = numbers(cbits);
+    let s = numbers(sbits);
+    let kc = numbers(kcbits);
+    let ks = numbers(ksbits);
     let six = [
         average(Functional::Potential, &c, &s, &kc, &ks),
         average(Functional::GeoidHeight, &c, &s, &kc, &ks),
@@ -184,7 +158,7 @@ fn show_ranked(
     concentrations: &[f64],
     vectors: &[f64],
     words: &[u64],
-) -> Result<()>
+) -> io::Result<()>
     requires { length orders.now + length concentrations.now + length vectors.now ≤ length words.now }
 {
     let k = orders.len();
@@ -200,161 +174,108 @@ fn show_ranked(
     show(stdout, b"polar_cap vectors ", vectors, words, at)
 }
 
-// A cap to degree L; the answers are orders, concentrations, vectors, and apart from them how the solver ended for each order.
-fn show_cap(
+// A cap to degree L of so many functions, 28 at most, and a working list; the answers are orders, concentrations, vectors, and apart from them how the
+// solver ended for each order.
+fn show_cap<const NODES: usize, const PAIRS: usize>(
     stdout: Stdout,
     l: usize,
-    cosine: u64,
-    weights: &[f64],
-    latitudes: &[f64],
+    functions: usize,
     work: &mut [f64],
-    orders: &mut [f64],
-    concentrations: &mut [f64],
-    vectors: &mut [f64],
-    settled: &mut [f64],
+    cosine: u64,
+    weights: &[u64; NODES],
+    latitudes: &[u64; PAIRS],
     words: &[u64],
     ended: &[u64],
-) -> Result<()>
-    requires { (length orders.old + length concentrations.old + length vectors.old ≤ length words.now) × (length settled.old ≤ length ended.now) }
+) -> io::Result<()>
+    requires functions { (functions ≤ 28) × (functions + functions ≤ length words.now) }
+    requires words { length words.now ≤ functions + functions + 140 }
+    requires ended { length ended.now ≤ 14 }
 {
-    let x = number::number_of_bits(cosine);
+    let numbers_of_vectors = words.len() - functions - functions;
+    let mut orders = [0.0; 28];
+    let mut concentrations = [0.0; 28];
+    let mut vectors = [0.0; 140];
+    let mut settled = [0.0; 14];
     match polar_cap::polar_cap(
         l,
-        x,
-        weights,
-        latitudes,
+        number::number_of_bits(cosine),
+        &numbers(weights),
+        &numbers(latitudes),
         work,
-        orders,
-        concentrations,
-        vectors,
-        settled,
+        &mut orders[..functions],
+        &mut concentrations[..functions],
+        &mut vectors[..numbers_of_vectors],
+        &mut settled[..ended.len()],
     ) {
-        Answer::Done => {
-            show_ranked(stdout, orders, concentrations, vectors, words)?;
-            show(stdout, b"polar_cap settled and counts ", settled, ended, 0)?;
+        Ok(()) => {
+            show_ranked(
+                stdout,
+                &orders[..functions],
+                &concentrations[..functions],
+                &vectors[..numbers_of_vectors],
+                words,
+            )?;
+            show_front(stdout, b"polar_cap settled and counts ", &settled, ended)?;
         }
-        Answer::Refused(_) => {
+        Err(_) => {
             replay_print::print(stdout, b"polar_cap refused\n")?;
         }
     }
     Ok(())
 }
 
-// The cap to degree 0.
-fn show_cap_0(stdout: Stdout) -> Result<()> {
-    let mut weights = [0.0; 1];
-    let mut latitudes = [0.0; 2];
-    replay::load(&averages::CAP_0_WEIGHTS, 0, &mut weights);
-    replay::load(&averages::CAP_0_LATITUDES, 0, &mut latitudes);
-    let mut work = [0.0; 15];
-    let mut orders = [0.0; 1];
-    let mut concentrations = [0.0; 1];
-    let mut vectors = [0.0; 1];
-    let mut settled = [0.0; 2];
+fn show_caps(stdout: Stdout) -> io::Result<()> {
     show_cap(
         stdout,
         0,
+        1,
+        &mut [0.0; 15],
         averages::CAP_0_COSINE[0],
-        &weights,
-        &latitudes,
-        &mut work,
-        &mut orders,
-        &mut concentrations,
-        &mut vectors,
-        &mut settled,
+        &averages::CAP_0_WEIGHTS,
+        &averages::CAP_0_LATITUDES,
         &averages::CAP_0,
         &averages::CAP_0_SETTLED,
-    )
-}
-
-// The cap to degree 1.
-fn show_cap_1(stdout: Stdout) -> Result<()> {
-    let mut weights = [0.0; 2];
-    let mut latitudes = [0.0; 4];
-    replay::load(&averages::CAP_1_WEIGHTS, 0, &mut weights);
-    replay::load(&averages::CAP_1_LATITUDES, 0, &mut latitudes);
-    let mut work = [0.0; 46];
-    let mut orders = [0.0; 3];
-    let mut concentrations = [0.0; 3];
-    let mut vectors = [0.0; 5];
-    let mut settled = [0.0; 4];
+    )?;
     show_cap(
         stdout,
         1,
+        3,
+        &mut [0.0; 46],
         averages::CAP_1_COSINE[0],
-        &weights,
-        &latitudes,
-        &mut work,
-        &mut orders,
-        &mut concentrations,
-        &mut vectors,
-        &mut settled,
+        &averages::CAP_1_WEIGHTS,
+        &averages::CAP_1_LATITUDES,
         &averages::CAP_1,
         &averages::CAP_1_SETTLED,
-    )
-}
-
-// The cap to degree 2.
-fn show_cap_2(stdout: Stdout) -> Result<()> {
-    let mut weights = [0.0; 3];
-    let mut latitudes = [0.0; 6];
-    replay::load(&averages::CAP_2_WEIGHTS, 0, &mut weights);
-    replay::load(&averages::CAP_2_LATITUDES, 0, &mut latitudes);
-    let mut work = [0.0; 95];
-    let mut orders = [0.0; 6];
-    let mut concentrations = [0.0; 6];
-    let mut vectors = [0.0; 14];
-    let mut settled = [0.0; 6];
+    )?;
     show_cap(
         stdout,
         2,
+        6,
+        &mut [0.0; 95],
         averages::CAP_2_COSINE[0],
-        &weights,
-        &latitudes,
-        &mut work,
-        &mut orders,
-        &mut concentrations,
-        &mut vectors,
-        &mut settled,
+        &averages::CAP_2_WEIGHTS,
+        &averages::CAP_2_LATITUDES,
         &averages::CAP_2,
         &averages::CAP_2_SETTLED,
-    )
-}
-
-// The cap to degree 6.
-fn show_cap_6(stdout: Stdout) -> Result<()> {
-    let mut weights = [0.0; 7];
-    let mut latitudes = [0.0; 14];
-    replay::load(&averages::CAP_6_WEIGHTS, 0, &mut weights);
-    replay::load(&averages::CAP_6_LATITUDES, 0, &mut latitudes);
-    let mut work = [0.0; 511];
-    let mut orders = [0.0; 28];
-    let mut concentrations = [0.0; 28];
-    let mut vectors = [0.0; 140];
-    let mut settled = [0.0; 14];
+    )?;
     show_cap(
         stdout,
         6,
+        28,
+        &mut [0.0; 511],
         averages::CAP_6_COSINE[0],
-        &weights,
-        &latitudes,
-        &mut work,
-        &mut orders,
-        &mut concentrations,
-        &mut vectors,
-        &mut settled,
+        &averages::CAP_6_WEIGHTS,
+        &averages::CAP_6_LATITUDES,
         &averages::CAP_6,
         &averages::CAP_6_SETTLED,
     )
 }
 
 // The cap to degree 18.
-fn show_cap_18(stdout: Stdout) -> Result<()> {
+fn show_cap_18(stdout: Stdout) -> io::Result<()> {
     let cosine = number::number_of_bits(averages::CAP_18_COSINE[0]);
-    let mut weights = [0.0; 19];
-    let mut latitudes = [0.0; 38];
-    replay::load(&averages::CAP_18_WEIGHTS, 0, &mut weights);
-    replay::load(&averages::CAP_18_LATITUDES, 0, &mut latitudes);
+    let weights = numbers(&averages::CAP_18_WEIGHTS);
+    let latitudes = numbers(&averages::CAP_18_LATITUDES);
     let mut work = [0.0; 4959];
     let mut orders = [0.0; 190];
     let mut concentrations = [0.0; 190];
@@ -371,7 +292,7 @@ fn show_cap_18(stdout: Stdout) -> Result<()> {
         &mut vectors,
         &mut settled,
     ) {
-        Answer::Done => {
+        Ok(()) => {
             show(
                 stdout,
                 b"polar_cap 18 orders ",
@@ -394,14 +315,14 @@ fn show_cap_18(stdout: Stdout) -> Result<()> {
                 0,
             )?;
         }
-        Answer::Refused(_) => {
+        Err(_) => {
             replay_print::print(stdout, b"polar_cap 18 refused\n")?;
         }
     }
     Ok(())
 }
 
-fn grids_of_3(stdout: Stdout) -> Result<()> {
+fn grids_of_3(stdout: Stdout) -> io::Result<()> {
     show_grid(
         stdout,
         Functional::GeoidHeight,
@@ -432,7 +353,7 @@ fn grids_of_3(stdout: Stdout) -> Result<()> {
     )
 }
 
-fn both_averages(stdout: Stdout) -> Result<()> {
+fn both_averages(stdout: Stdout) -> io::Result<()> {
     show_averages(
         stdout,
         &averages::C,
@@ -451,15 +372,12 @@ fn both_averages(stdout: Stdout) -> Result<()> {
     )
 }
 
-fn main(rt: HostRuntime) -> Result<()> {
+fn main(rt: HostRuntime) -> io::Result<()> {
     let stdout = rt.stdout();
     replay_print::control(stdout)?;
     grids_of_3(stdout)?;
     show_large_grid(stdout)?;
     both_averages(stdout)?;
-    show_cap_0(stdout)?;
-    show_cap_1(stdout)?;
-    show_cap_2(stdout)?;
-    show_cap_6(stdout)?;
+    show_caps(stdout)?;
     show_cap_18(stdout)
 }

@@ -8,9 +8,9 @@ mod files;
 ghost use Rattle.std.specs.Prelude.{◌≡◌, ◌+◌, ◌≤◌, length};
 
 use coefficients::TideSystem;
-use model_file::{FileHead, Reading};
-use refusal::Answer;
-use std::io::{Result, Stdout};
+use model_file::FileHead;
+use std::io;
+use std::io::Stdout;
 
 // What stands in lists before a call.
 const WORD: u64 = 0x5a5a_1234_5a5a_9876;
@@ -63,7 +63,7 @@ fn head_of(words: &[u64; 5]) -> FileHead {
 }
 
 // The line of the first bytes of a list, as many as `file` has.
-fn print_bytes(stdout: Stdout, name: &[u8], bytes: &[u8], file: &[u8]) -> Result<()>
+fn print_bytes(stdout: Stdout, name: &[u8], bytes: &[u8], file: &[u8]) -> io::Result<()>
     requires fact_1 { length name.now ≤ 80 }
     requires fact_2 { length file.now ≤ length bytes.now }
 {
@@ -80,7 +80,7 @@ fn print_written(
     c: &[u64],
     s: &[u64],
     file: &[u8],
-) -> Result<()>
+) -> io::Result<()>
     requires fact_1 { length name.now ≤ 80 }
     requires fact_2 { pairs ≤ length c.now }
     requires fact_3 { pairs ≤ length s.now }
@@ -88,10 +88,10 @@ fn print_written(
 {
     let mut out = [BYTE; 200];
     match model_file::write(head, &c[..pairs], &s[..pairs], &mut out) {
-        Answer::Refused(_) => {
+        Err(_) => {
             replay_print::print(stdout, b"write refused\n")?;
         }
-        Answer::Done => print_bytes(stdout, name, &out, file)?,
+        Ok(()) => print_bytes(stdout, name, &out, file)?,
     }
     Ok(())
 }
@@ -105,7 +105,7 @@ fn print_read(
     head: &[u64; 5],
     c: &[u64],
     s: &[u64],
-) -> Result<()>
+) -> io::Result<()>
     requires { (length c.now ≤ 12) × (length s.now ≤ 12) }
 {
     replay_print::show_words(stdout, b"head ", &words_of(h), head, 0)?;
@@ -124,7 +124,7 @@ fn print_model(
     head: &[u64; 5],
     c: &[u64],
     s: &[u64],
-) -> Result<()>
+) -> io::Result<()>
     requires { (pairs ≤ 10) × ((length file.now ≤ 200) × ((pairs ≤ length c.now) × (pairs ≤ length s.now))) }
 {
     print_written(stdout, b"written ", head_of(head), pairs, c, s, file)?;
@@ -139,7 +139,7 @@ fn print_file(
     head: &[u64; 5],
     c: &[u64],
     s: &[u64],
-) -> Result<()>
+) -> io::Result<()>
     requires fact_1 { pairs ≤ 10 }
     requires fact_2 { 2 ≤ length file.now }
     requires fact_3 { length file.now ≤ 200 }
@@ -150,10 +150,10 @@ fn print_file(
     let mut cread = [WORD; 12];
     let mut sread = [WORD; 12];
     match model_file::read(&file[..bytes], &mut cread, &mut sread) {
-        Reading::Refused(_) => {
+        Err(_) => {
             replay_print::print(stdout, b"read refused\n")?;
         }
-        Reading::Model(h) => {
+        Ok(h) => {
             print_read(stdout, h, &cread, &sread, head, c, s)?;
             print_model(stdout, pairs, h, &cread, &sread, file, head, c, s)?;
         }
@@ -161,7 +161,7 @@ fn print_file(
     Ok(())
 }
 
-fn print_undated(stdout: Stdout) -> Result<()> {
+fn print_undated(stdout: Stdout) -> io::Result<()> {
     print_file(
         stdout,
         1,
@@ -228,7 +228,7 @@ fn print_undated(stdout: Stdout) -> Result<()> {
     )
 }
 
-fn print_small_dated(stdout: Stdout) -> Result<()> {
+fn print_small_dated(stdout: Stdout) -> io::Result<()> {
     print_file(
         stdout,
         1,
@@ -279,7 +279,7 @@ fn print_small_dated(stdout: Stdout) -> Result<()> {
     )
 }
 
-fn print_larger_dated(stdout: Stdout) -> Result<()> {
+fn print_larger_dated(stdout: Stdout) -> io::Result<()> {
     print_file(
         stdout,
         3,
@@ -298,7 +298,7 @@ fn print_larger_dated(stdout: Stdout) -> Result<()> {
     )
 }
 
-fn main(rt: HostRuntime) -> Result<()> {
+fn main(rt: HostRuntime) -> io::Result<()> {
     let stdout = rt.stdout();
     replay_cases::control(stdout)?;
     print_undated(stdout)?;

@@ -4,9 +4,9 @@
 mod kernel_answers;
 mod kernels;
 
-use std::io::Result;
+use std::io;
 
-fn main(rt: HostRuntime) -> Result<()> {
+fn main(rt: HostRuntime) -> io::Result<()> {
     let stdout = rt.stdout();
     replay_cases::control(stdout)?;
     kernels::show_kernels(stdout)

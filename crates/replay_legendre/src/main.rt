@@ -4,25 +4,24 @@
 
 mod answers;
 
-ghost use Rattle.std.specs.Prelude.{◌≡◌, ◌+◌, ◌≤◌, length};
+ghost use Rattle.std.specs.Prelude.{◌≡◌, ◌+◌, ◌<◌, ◌≤◌, length};
 
 use legendre::Latitude;
-use refusal::{Answer, Number};
-use replay_print::show;
-use std::io::{Result, Stdout};
+use refusal::Refusal;
+use replay_cases::{MARK, latitude_of};
+use replay_print::{show, show_front};
+use std::io;
+use std::io::Stdout;
 
-// What stands in every place of the large lists.
-const MARK: f64 = 1234.5;
-
-fn show_new(stdout: Stdout) -> Result<()> {
+fn show_new(stdout: Stdout) -> io::Result<()> {
     let mut a = [0.0; 15];
     let mut b = [0.0; 15];
     match legendre::new(4, &mut a, &mut b) {
-        Answer::Done => {
+        Ok(()) => {
             show(stdout, b"new a ", &a, &answers::A, 0)?;
             show(stdout, b"new b ", &b, &answers::B, 0)?;
         }
-        Answer::Refused(_) => {
+        Err(_) => {
             replay_print::print(stdout, b"new refused\n")?;
         }
     }
@@ -30,17 +29,17 @@ fn show_new(stdout: Stdout) -> Result<()> {
 }
 
 // `grow` on lists of 18 numbers: a row of the answers has a and b before the call, then after it.
-fn show_grow(stdout: Stdout, from: usize, nmax: usize, words: &[u64; 72]) -> Result<()> {
+fn show_grow(stdout: Stdout, from: usize, nmax: usize, words: &[u64; 72]) -> io::Result<()> {
     let mut a = [0.0; 18];
     let mut b = [0.0; 18];
     replay::load(words, 0, &mut a);
     replay::load(words, 18, &mut b);
     match legendre::grow(from, nmax, &mut a, &mut b) {
-        Answer::Done => {
+        Ok(()) => {
             show(stdout, b"grow a ", &a, words, 36)?;
             show(stdout, b"grow b ", &b, words, 54)?;
         }
-        Answer::Refused(_) => {
+        Err(_) => {
             replay_print::print(stdout, b"grow refused\n")?;
         }
     }
@@ -49,7 +48,7 @@ fn show_grow(stdout: Stdout, from: usize, nmax: usize, words: &[u64; 72]) -> Res
 
 // Over the rows of a table, over marks, and where there is no row to write: at the degree of the table, above it with room for the rows between, and
 // from degrees whose low 32 or 63 bits are a lower one's.
-fn show_grown(stdout: Stdout) -> Result<()> {
+fn show_grown(stdout: Stdout) -> io::Result<()> {
     show_grow(stdout, 0, 4, &answers::GROW_ZERO)?;
     show_grow(stdout, 1, 3, &answers::GROW_ONE)?;
     show_grow(stdout, 2, 4, &answers::GROW_TWO)?;
@@ -62,23 +61,23 @@ fn show_grown(stdout: Stdout) -> Result<()> {
     show_grow(stdout, 18446744073709551615, 4, &answers::GROW_NONE)
 }
 
-// The entry of degree 3 and order 2 by the call for it.
-fn show_entry(stdout: Stdout, table: &[f64; 15], words: &[u64; 32]) -> Result<()> {
-    match legendre::p(4, table, 3, 2) {
-        Number::Value(x) => show(stdout, b"p(3, 2) ", &[x], words, 10)?,
-        Number::Refused(_) => {
-            replay_print::print(stdout, b"p(3, 2) refused\n")?;
-        }
-    }
-    Ok(())
-}
-
-// The same of the derivatives.
-fn show_derivative_entry(stdout: Stdout, table: &[f64; 15], words: &[u64; 32]) -> Result<()> {
-    match legendre::dp(4, table, 3, 2) {
-        Number::Value(x) => show(stdout, b"dp(3, 2) ", &[x], words, 25)?,
-        Number::Refused(_) => {
-            replay_print::print(stdout, b"dp(3, 2) refused\n")?;
+// The entry of degree 3 and order 2, due at index `at`, by the call for it.
+fn show_entry<F: FnOnce(usize, &[f64], usize, usize) -> Result<f64, Refusal>>(
+    stdout: Stdout,
+    name: &[u8],
+    call: F,
+    table: &[f64; 15],
+    words: &[u64; 32],
+    at: usize,
+) -> io::Result<()>
+    requires call { F.IsAlwaysCallable call }
+    requires bounds { (length name.now ≤ 80) × (at < 32) }
+{
+    match call(4, table, 3, 2) {
+        Ok(x) => show(stdout, name, &[x], words, at)?,
+        Err(_) => {
+            replay_print::print(stdout, name)?;
+            replay_print::print(stdout, b"refused\n")?;
         }
     }
     Ok(())
@@ -91,14 +90,14 @@ fn show_compute(
     a: &[f64; 15],
     b: &[f64; 15],
     words: &[u64; 32],
-) -> Result<()> {
+) -> io::Result<()> {
     let mut p = [0.0; 15];
     match legendre::compute(4, latitude, a, b, &mut p) {
-        Answer::Done => {
+        Ok(()) => {
             show(stdout, b"compute ", &p, words, 2)?;
-            show_entry(stdout, &p, words)?;
+            show_entry(stdout, b"p(3, 2) ", legendre::p, &p, words, 10)?;
         }
-        Answer::Refused(_) => {
+        Err(_) => {
             replay_print::print(stdout, b"compute refused\n")?;
         }
     }
@@ -106,49 +105,36 @@ fn show_compute(
 }
 
 // P and its derivatives at one latitude: a row of the answers has t, u, 15 numbers of each.
-fn show_at(stdout: Stdout, a: &[u64; 15], b: &[u64; 15], words: &[u64; 32]) -> Result<()> {
-    let mut la = [0.0; 15];
-    let mut lb = [0.0; 15];
-    replay::load(a, 0, &mut la);
-    replay::load(b, 0, &mut lb);
-    let latitude = Latitude {
-        t: number::number_of_bits(words[0]),
-        u: number::number_of_bits(words[1]),
-    };
+fn show_at(stdout: Stdout, a: &[u64; 15], b: &[u64; 15], words: &[u64; 32]) -> io::Result<()> {
+    let la = replay::numbers(a);
+    let lb = replay::numbers(b);
+    let latitude = latitude_of(words, 0);
     show_compute(stdout, latitude, &la, &lb, words)?;
     let mut p = [0.0; 15];
     let mut dp = [0.0; 15];
     match legendre::compute_with_derivative(4, latitude, &la, &lb, &mut p, &mut dp) {
-        Answer::Done => {
+        Ok(()) => {
             show(stdout, b"compute_with_derivative p ", &p, words, 2)?;
             show(stdout, b"compute_with_derivative dp ", &dp, words, 17)?;
-            show_derivative_entry(stdout, &dp, words)?;
+            show_entry(stdout, b"dp(3, 2) ", legendre::dp, &dp, words, 25)?;
         }
-        Answer::Refused(_) => {
+        Err(_) => {
             replay_print::print(stdout, b"compute_with_derivative refused\n")?;
         }
     }
     Ok(())
 }
 
-// The first latitude.
-fn middle() -> Latitude {
-    Latitude {
-        t: number::number_of_bits(answers::MIDDLE[0]),
-        u: number::number_of_bits(answers::MIDDLE[1]),
-    }
-}
-
 // A table up to degree 130: its front, which is a table up to degree 4; at the first latitude P of degree 130, 131 numbers, then the derivatives.
-fn show_large_new(stdout: Stdout, a: &mut [f64; 8646], b: &mut [f64; 8646]) -> Result<()> {
+fn show_large_new(stdout: Stdout, a: &mut [f64; 8646], b: &mut [f64; 8646]) -> io::Result<()> {
     match legendre::new(130, a, b) {
-        Answer::Done => {
+        Ok(()) => {
             show_front(stdout, b"new 130, front of a ", a, &answers::A)?;
             show_front(stdout, b"new 130, front of b ", b, &answers::B)?;
-            show_large_compute(stdout, middle(), a, b)?;
-            show_large_derivative(stdout, middle(), a, b)?;
+            show_large_compute(stdout, latitude_of(&answers::MIDDLE, 0), a, b)?;
+            show_large_derivative(stdout, latitude_of(&answers::MIDDLE, 0), a, b)?;
         }
-        Answer::Refused(_) => {
+        Err(_) => {
             replay_print::print(stdout, b"new 130 refused\n")?;
         }
     }
@@ -161,11 +147,11 @@ fn show_large_compute(
     latitude: Latitude,
     a: &[f64; 8646],
     b: &[f64; 8646],
-) -> Result<()> {
+) -> io::Result<()> {
     let mut p = [0.0; 8646];
     match legendre::compute(130, latitude, a, b, &mut p) {
-        Answer::Done => show_row(stdout, b"compute 130 ", &p, &answers::LARGE, 0)?,
-        Answer::Refused(_) => {
+        Ok(()) => show_row(stdout, b"compute 130 ", &p, &answers::LARGE, 0)?,
+        Err(_) => {
             replay_print::print(stdout, b"compute 130 refused\n")?;
         }
     }
@@ -178,11 +164,11 @@ fn show_large_derivative(
     latitude: Latitude,
     a: &[f64; 8646],
     b: &[f64; 8646],
-) -> Result<()> {
+) -> io::Result<()> {
     let mut p = [0.0; 8646];
     let mut dp = [0.0; 8646];
     match legendre::compute_with_derivative(130, latitude, a, b, &mut p, &mut dp) {
-        Answer::Done => {
+        Ok(()) => {
             show_row(
                 stdout,
                 b"compute_with_derivative 130, p ",
@@ -198,7 +184,7 @@ fn show_large_derivative(
                 131,
             )?;
         }
-        Answer::Refused(_) => {
+        Err(_) => {
             replay_print::print(stdout, b"compute_with_derivative 130 refused\n")?;
         }
     }
@@ -206,20 +192,17 @@ fn show_large_derivative(
 }
 
 // The last row of a table up to degree 130.
-fn show_row(stdout: Stdout, name: &[u8], table: &[f64], words: &[u64; 262], at: usize) -> Result<()>
+fn show_row(
+    stdout: Stdout,
+    name: &[u8],
+    table: &[f64],
+    words: &[u64; 262],
+    at: usize,
+) -> io::Result<()>
     requires { (length table.now ≡ 8646) × ((at ≤ 131) × (length name.now ≤ 80)) }
 {
     let from = 8515;
     show(stdout, name, &table[from..], words, at)
-}
-
-// The front of a table, as many numbers as are due.
-fn show_front(stdout: Stdout, name: &[u8], table: &[f64], words: &[u64]) -> Result<()>
-    requires fact_1 { length words.now ≤ length table.now }
-    requires fact_2 { length name.now ≤ 80 }
-{
-    let end = words.len();
-    show(stdout, name, &table[..end], words, 0)
 }
 
 // A table that grows in two steps to degree 130: its last row, and P by all of its rows.
@@ -229,10 +212,10 @@ fn show_large_grow(
     between: usize,
     a: &mut [f64; 8646],
     b: &mut [f64; 8646],
-) -> Result<()> {
+) -> io::Result<()> {
     match legendre::new(from, a, b) {
-        Answer::Done => show_first_step(stdout, from, between, a, b)?,
-        Answer::Refused(_) => {
+        Ok(()) => show_first_step(stdout, from, between, a, b)?,
+        Err(_) => {
             replay_print::print(stdout, b"new refused\n")?;
         }
     }
@@ -245,10 +228,10 @@ fn show_first_step(
     between: usize,
     a: &mut [f64; 8646],
     b: &mut [f64; 8646],
-) -> Result<()> {
+) -> io::Result<()> {
     match legendre::grow(from, between, a, b) {
-        Answer::Done => show_last_step(stdout, between, a, b)?,
-        Answer::Refused(_) => {
+        Ok(()) => show_last_step(stdout, between, a, b)?,
+        Err(_) => {
             replay_print::print(stdout, b"grow refused\n")?;
         }
     }
@@ -260,14 +243,14 @@ fn show_last_step(
     from: usize,
     a: &mut [f64; 8646],
     b: &mut [f64; 8646],
-) -> Result<()> {
+) -> io::Result<()> {
     match legendre::grow(from, 130, a, b) {
-        Answer::Done => {
+        Ok(()) => {
             show_row(stdout, b"grow 130, a ", a, &answers::LARGE_TABLES, 0)?;
             show_row(stdout, b"grow 130, b ", b, &answers::LARGE_TABLES, 131)?;
-            show_large_compute(stdout, middle(), a, b)?;
+            show_large_compute(stdout, latitude_of(&answers::MIDDLE, 0), a, b)?;
         }
-        Answer::Refused(_) => {
+        Err(_) => {
             replay_print::print(stdout, b"grow 130 refused\n")?;
         }
     }
@@ -276,7 +259,7 @@ fn show_last_step(
 
 // Tables up to degree 130 in lists of marks: by one call; by seven rows with guesses from a short list, then three without; by five with guesses from a
 // long list.
-fn show_large(stdout: Stdout) -> Result<()> {
+fn show_large(stdout: Stdout) -> io::Result<()> {
     let mut a = [MARK; 8646];
     let mut b = [MARK; 8646];
     show_large_new(stdout, &mut a, &mut b)?;
@@ -288,78 +271,37 @@ fn show_large(stdout: Stdout) -> Result<()> {
     show_large_grow(stdout, 125, 125, &mut a, &mut b)
 }
 
-// A rule: a row of the answers has the guesses, the nodes and the weights.
-fn show_rule(
-    stdout: Stdout,
-    words: &[u64],
-    guesses: &mut [f64],
-    x: &mut [f64],
-    w: &mut [f64],
-) -> Result<()>
-    requires { (length guesses.old + length x.old + length x.old ≤ length words.now) × (length x.old ≡ length w.old) }
+// A rule of N nodes: a row of the answers has the guesses, the nodes and the weights.
+fn show_rule<const HALF: usize, const N: usize>(stdout: Stdout, words: &[u64]) -> io::Result<()>
+    requires { HALF + N + N ≤ length words.now }
 {
-    let half = guesses.len();
-    let n = x.len();
-    replay::load(words, 0, guesses);
-    match quadrature::gauss_legendre(n, guesses, x, w) {
-        Answer::Done => {
-            show(stdout, b"gauss_legendre nodes ", x, words, half)?;
-            show(stdout, b"gauss_legendre weights ", w, words, half + n)?;
+    let mut guesses = [0.0; HALF];
+    let mut x = [0.0; N];
+    let mut w = [0.0; N];
+    replay::load(words, 0, &mut guesses);
+    match quadrature::gauss_legendre(N, &guesses, &mut x, &mut w) {
+        Ok(()) => {
+            show(stdout, b"gauss_legendre nodes ", &x, words, HALF)?;
+            show(stdout, b"gauss_legendre weights ", &w, words, HALF + N)?;
         }
-        Answer::Refused(_) => {
+        Err(_) => {
             replay_print::print(stdout, b"gauss_legendre refused\n")?;
         }
     }
     Ok(())
 }
 
-fn show_short_rules(stdout: Stdout) -> Result<()> {
-    let mut guesses = [0.0; 1];
-    let mut x1 = [0.0; 1];
-    let mut w1 = [0.0; 1];
-    show_rule(stdout, &answers::GAUSS_ONE, &mut guesses, &mut x1, &mut w1)?;
-    let mut x2 = [0.0; 2];
-    let mut w2 = [0.0; 2];
-    show_rule(stdout, &answers::GAUSS_TWO, &mut guesses, &mut x2, &mut w2)
+// The last two: guesses that are no roots (NaN, 2, -0), and one so far from the root that a hundred corrections do not reach it.
+fn show_rules(stdout: Stdout) -> io::Result<()> {
+    show_rule::<1, 1>(stdout, &answers::GAUSS_ONE)?;
+    show_rule::<1, 2>(stdout, &answers::GAUSS_TWO)?;
+    show_rule::<2, 3>(stdout, &answers::GAUSS_THREE)?;
+    show_rule::<4, 8>(stdout, &answers::GAUSS_EIGHT)?;
+    show_rule::<3, 5>(stdout, &answers::GAUSS_STRANGE)?;
+    show_rule::<1, 2>(stdout, &answers::GAUSS_FAR)
 }
 
-// A guess so far from the root that a hundred corrections do not reach it.
-fn show_far(stdout: Stdout) -> Result<()> {
-    let mut guesses = [0.0; 1];
-    let mut x = [0.0; 2];
-    let mut w = [0.0; 2];
-    show_rule(stdout, &answers::GAUSS_FAR, &mut guesses, &mut x, &mut w)
-}
-
-fn show_three(stdout: Stdout) -> Result<()> {
-    let mut guesses = [0.0; 2];
-    let mut x = [0.0; 3];
-    let mut w = [0.0; 3];
-    show_rule(stdout, &answers::GAUSS_THREE, &mut guesses, &mut x, &mut w)
-}
-
-fn show_eight(stdout: Stdout) -> Result<()> {
-    let mut guesses = [0.0; 4];
-    let mut x = [0.0; 8];
-    let mut w = [0.0; 8];
-    show_rule(stdout, &answers::GAUSS_EIGHT, &mut guesses, &mut x, &mut w)
-}
-
-// Guesses that are no roots: NaN, 2, -0.
-fn show_strange(stdout: Stdout) -> Result<()> {
-    let mut guesses = [0.0; 3];
-    let mut x = [0.0; 5];
-    let mut w = [0.0; 5];
-    show_rule(
-        stdout,
-        &answers::GAUSS_STRANGE,
-        &mut guesses,
-        &mut x,
-        &mut w,
-    )
-}
-
-fn main(rt: HostRuntime) -> Result<()> {
+fn main(rt: HostRuntime) -> io::Result<()> {
     let stdout = rt.stdout();
     replay_print::control(stdout)?;
     show_new(stdout)?;
@@ -374,10 +316,6 @@ fn main(rt: HostRuntime) -> Result<()> {
         &answers::SPECIAL_B,
         &answers::SPECIAL,
     )?;
-    show_short_rules(stdout)?;
-    show_three(stdout)?;
-    show_eight(stdout)?;
-    show_strange(stdout)?;
-    show_far(stdout)?;
+    show_rules(stdout)?;
     show_large(stdout)
 }

@@ -6,96 +6,77 @@ mod solvers;
 
 ghost use Rattle.std.specs.Prelude.{◌+◌, ◌<◌, ◌≤◌, length};
 
-use linalg::{Convergence, Solution};
+use linalg::Convergence;
+use refusal::Refusal;
 use replay_print::{show, show_words};
-use std::io::{Result, Stdout};
+use std::io;
+use std::io::Stdout;
 
 // How a solver ended: 1 where it settled or 0, and its count.
-fn show_ended(stdout: Stdout, ended: Convergence, due: &[u64], at: usize) -> Result<()>
+fn show_ended(stdout: Stdout, ended: Convergence, due: &[u64], at: usize) -> io::Result<()>
     requires { at + 2 ≤ length due.now }
 {
-    let told = [
-        linalg::settled_number(ended.settled) as u64,
-        ended.count as u64,
-    ];
+    let told = [u64::from(ended.settled), ended.count as u64];
     show_words(stdout, b"settled and count ", &told, due, at)
 }
 
 // The values of a call, its vectors behind them, and behind these how it ended.
 fn show_all(
     stdout: Stdout,
-    answer: Solution,
+    answer: Result<Convergence, Refusal>,
     values: &[f64],
     vectors: &[f64],
     due: &[u64],
     at: usize,
     first: &[u8],
     second: &[u8],
-) -> Result<()>
+) -> io::Result<()>
     requires { (at + length values.now + length vectors.now + 2 ≤ length due.now) × ((length first.now ≤ 80) × (length second.now ≤ 80)) }
 {
     match answer {
-        Solution::Solved(ended) => {
+        Ok(ended) => {
             show(stdout, first, values, due, at)?;
             show(stdout, second, vectors, due, at + values.len())?;
             show_ended(stdout, ended, due, at + values.len() + vectors.len())?;
         }
-        Solution::Refused(_) => {
+        Err(_) => {
             replay_print::print(stdout, b"refused\n")?;
         }
     }
     Ok(())
 }
 
-// A matrix of n rows by symmetric_eigen; the lists are those of its size.
-fn rotations(
+// A matrix of n rows and `size` numbers by a call.
+fn by_one<F>(
     stdout: Stdout,
+    call: F,
     n: usize,
-    a: &[f64],
-    values: &mut [f64],
-    vectors: &mut [f64],
+    size: usize,
     due: &[u64],
     at: usize,
-) -> Result<()>
-    requires { at + length values.old + length vectors.old + 2 ≤ length due.now }
+    first: &[u8],
+    second: &[u8],
+) -> io::Result<()>
+where
+    F: FnOnce(&mut [f64; 1292], &mut [f64; 34], &mut [f64; 1156]) -> Result<Convergence, Refusal>,
+    requires call { F.IsAlwaysCallable call }
+    requires sizes { (n ≤ 34) × (size ≤ 1156) }
+    requires due { at + n + size + 2 ≤ length due.now }
+    requires names { (length first.now ≤ 80) × (length second.now ≤ 80) }
 {
     let mut work = [0.0; 1292];
-    let answer = linalg::symmetric_eigen(n, a, &mut work, values, vectors);
+    let mut values = [0.0; 34];
+    let mut vectors = [0.0; 1156];
+    let answer = call(&mut work, &mut values, &mut vectors);
     show_all(
         stdout,
         answer,
-        values,
-        vectors,
+        &values[..n],
+        &vectors[..size],
         due,
         at,
-        b"symmetric_eigen values ",
-        b"symmetric_eigen vectors ",
-    )
-}
-
-// A matrix of n rows by householder_ql.
-fn reflections(
-    stdout: Stdout,
-    n: usize,
-    a: &[f64],
-    values: &mut [f64],
-    vectors: &mut [f64],
-    due: &[u64],
-    at: usize,
-) -> Result<()>
-    requires { at + length values.old + length vectors.old + 2 ≤ length due.now }
-{
-    let mut work = [0.0; 1292];
-    let answer = linalg::householder_ql(n, a, &mut work, values, vectors);
-    show_all(
-        stdout,
-        answer,
-        values,
-        vectors,
-        due,
-        at,
-        b"householder_ql values ",
-        b"householder_ql vectors ",
+        first,
+        second,
     )
 }
 
@@ -108,33 +89,35 @@ fn by_both(
     rotated: &[u64],
     reflected: &[u64],
     at: usize,
-) -> Result<()>
+) -> io::Result<()>
     requires fact_1 { n ≤ 34 }
     requires fact_2 { size ≤ 1156 }
     requires fact_3 { at + n + size + 2 ≤ length rotated.now }
     requires fact_4 { at + n + size + 2 ≤ length reflected.now }
 {
-    let mut values = [0.0; 34];
-    let mut vectors = [0.0; 1156];
-    rotations(
+    by_one(
         stdout,
+        |work, values, vectors| {
+            linalg::symmetric_eigen(n, a, work, &mut values[..n], &mut vectors[..size])
+        },
         n,
-        a,
-        &mut values[..n],
-        &mut vectors[..size],
+        size,
         rotated,
         at,
+        b"symmetric_eigen values ",
+        b"symmetric_eigen vectors ",
     )?;
-    let mut anew = [0.0; 34];
-    let mut vectors_anew = [0.0; 1156];
-    reflections(
+    by_one(
         stdout,
+        |work, values, vectors| {
+            linalg::householder_ql(n, a, work, &mut values[..n], &mut vectors[..size])
+        },
         n,
-        a,
-        &mut anew[..n],
-        &mut vectors_anew[..size],
+        size,
         reflected,
         at,
+        b"householder_ql values ",
+        b"householder_ql vectors ",
     )
 }
 
@@ -148,7 +131,7 @@ fn loaded(
     rotated: &[u64],
     reflected: &[u64],
     at: usize,
-) -> Result<()>
+) -> io::Result<()>
     requires { (n ≤ 34) × ((length a.old ≤ 1156) × ((start + length a.old ≤ length matrices.now) × ((at + n + length a.old + 2 ≤ length rotated.now) × (at + n + length a.old + 2 ≤ length reflected.now)))) }
 {
     replay::load(matrices, start, a);
@@ -156,7 +139,7 @@ fn loaded(
 }
 
 // The empty matrix.
-fn of_0(stdout: Stdout) -> Result<()> {
+fn of_0(stdout: Stdout) -> io::Result<()> {
     let a = [0.0; 1];
     by_both(
         stdout,
@@ -170,7 +153,7 @@ fn of_0(stdout: Stdout) -> Result<()> {
 }
 
 // Matrix j of 1 row.
-fn of_1(stdout: Stdout, j: usize) -> Result<()>
+fn of_1(stdout: Stdout, j: usize) -> io::Result<()>
     requires { j < 3 }
 {
     let mut a = [0.0; 1];
@@ -187,7 +170,7 @@ fn of_1(stdout: Stdout, j: usize) -> Result<()>
 }
 
 // Matrix j of 2 rows.
-fn of_2(stdout: Stdout, j: usize) -> Result<()>
+fn of_2(stdout: Stdout, j: usize) -> io::Result<()>
     requires { j < 11 }
 {
     let mut a = [0.0; 4];
@@ -204,7 +187,7 @@ fn of_2(stdout: Stdout, j: usize) -> Result<()>
 }
 
 // Matrix j of 3 rows.
-fn of_3(stdout: Stdout, j: usize) -> Result<()>
+fn of_3(stdout: Stdout, j: usize) -> io::Result<()>
     requires { j < 4 }
 {
     let mut a = [0.0; 9];
@@ -221,7 +204,7 @@ fn of_3(stdout: Stdout, j: usize) -> Result<()>
 }
 
 // Matrix j of 4 rows.
-fn of_4(stdout: Stdout, j: usize) -> Result<()>
+fn of_4(stdout: Stdout, j: usize) -> io::Result<()>
     requires { j < 4 }
 {
     let mut a = [0.0; 16];
@@ -238,7 +221,7 @@ fn of_4(stdout: Stdout, j: usize) -> Result<()>
 }
 
 // The matrix of 5 rows.
-fn of_5(stdout: Stdout) -> Result<()> {
+fn of_5(stdout: Stdout) -> io::Result<()> {
     let mut a = [0.0; 25];
     loaded(
         stdout,
@@ -256,10 +239,8 @@ fn of_5(stdout: Stdout) -> Result<()> {
 fn dense(n: usize, a: &mut [f64])
     requires { 0 < n }
 {
-    let mut k = 0;
-    while k < a.len() {
-        a[k] = entry(k / n, k % n);
-        k += 1;
+    for (k, x) in a.iter_mut().enumerate() {
+        *x = entry(k / n, k % n);
     }
 }
 
@@ -278,7 +259,7 @@ fn of_dense(
     a: &mut [f64],
     rotated: &[u64],
     reflected: &[u64],
-) -> Result<()>
+) -> io::Result<()>
     requires { (0 < n) × ((n ≤ 34) × ((length a.old ≤ 1156) × ((n + length a.old + 2 ≤ length rotated.now) × (n + length a.old + 2 ≤ length reflected.now)))) }
 {
     dense(n, a);
@@ -286,13 +267,13 @@ fn of_dense(
 }
 
 // The values of n rows of one number by symmetric_eigen, and how it ended; a has as many places as the rows have numbers, and values one for each row.
-fn of_alike(stdout: Stdout, n: usize, a: &[f64], values: &mut [f64], due: &[u64]) -> Result<()>
+fn of_alike(stdout: Stdout, n: usize, a: &[f64], values: &mut [f64], due: &[u64]) -> io::Result<()>
     requires { length values.old + 2 ≤ length due.now }
 {
     let mut work = [0.0; 1221];
     let mut vectors = [0.0; 1089];
     match linalg::symmetric_eigen(n, a, &mut work, values, &mut vectors) {
-        Solution::Solved(ended) => {
+        Ok(ended) => {
             show(
                 stdout,
                 b"symmetric_eigen of rows alike values ",
@@ -302,14 +283,14 @@ fn of_alike(stdout: Stdout, n: usize, a: &[f64], values: &mut [f64], due: &[u64]
             )?;
             show_ended(stdout, ended, due, values.len())?;
         }
-        Solution::Refused(_) => {
+        Err(_) => {
             replay_print::print(stdout, b"refused\n")?;
         }
     }
     Ok(())
 }
 
-fn alike(stdout: Stdout, n: usize, size: usize, cell: f64, due: &[u64]) -> Result<()>
+fn alike(stdout: Stdout, n: usize, size: usize, cell: f64, due: &[u64]) -> io::Result<()>
     requires fact_1 { n ≤ 33 }
     requires fact_2 { size ≤ 1089 }
     requires fact_3 { n + 2 ≤ length due.now }
@@ -319,7 +300,7 @@ fn alike(stdout: Stdout, n: usize, size: usize, cell: f64, due: &[u64]) -> Resul
     of_alike(stdout, n, &a[..size], &mut values[..n], due)
 }
 
-fn all_of_2(stdout: Stdout) -> Result<()> {
+fn all_of_2(stdout: Stdout) -> io::Result<()> {
     of_2(stdout, 0)?;
     of_2(stdout, 1)?;
     of_2(stdout, 2)?;
@@ -333,7 +314,7 @@ fn all_of_2(stdout: Stdout) -> Result<()> {
     of_2(stdout, 10)
 }
 
-fn all_listed(stdout: Stdout) -> Result<()> {
+fn all_listed(stdout: Stdout) -> io::Result<()> {
     of_0(stdout)?;
     of_1(stdout, 0)?;
     of_1(stdout, 1)?;
@@ -350,7 +331,7 @@ fn all_listed(stdout: Stdout) -> Result<()> {
     of_5(stdout)
 }
 
-fn all_dense(stdout: Stdout) -> Result<()> {
+fn all_dense(stdout: Stdout) -> io::Result<()> {
     let mut a = [0.0; 25];
     of_dense(
         stdout,
@@ -370,7 +351,7 @@ fn all_dense(stdout: Stdout) -> Result<()> {
 }
 
 // Ones, and no numbers at all.
-fn all_alike(stdout: Stdout) -> Result<()> {
+fn all_alike(stdout: Stdout) -> io::Result<()> {
     alike(stdout, 27, 729, 1.0, &solvers::ONES_27)?;
     alike(stdout, 28, 784, 1.0, &solvers::ONES_28)?;
     alike(stdout, 29, 841, 1.0, &solvers::ONES_29)?;
@@ -382,7 +363,7 @@ fn all_alike(stdout: Stdout) -> Result<()> {
     alike(stdout, 33, 1089, nan, &solvers::NANS_33)
 }
 
-fn main(rt: HostRuntime) -> Result<()> {
+fn main(rt: HostRuntime) -> io::Result<()> {
     let stdout = rt.stdout();
     replay_print::control(stdout)?;
     all_listed(stdout)?;

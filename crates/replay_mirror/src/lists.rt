@@ -7,14 +7,13 @@ use geopotential::lists::{
     geopotential_legendre_mirror_derivative_lengths, geopotential_legendre_mirror_lengths,
 };
 use geopotential::tables::{geopotential_legendre_mirror, geopotential_legendre_mirror_derivative};
+use replay_cases::print_lengths;
 use replay_print::{show, show_words};
-use std::io::{Result, Stdout};
-
-// What stands in a list of lengths before a call.
-const MARK_LENGTH: usize = 1234;
+use std::io;
+use std::io::Stdout;
 
 // Any numbers: before the calls, after `mirror`, after `mirror_derivative`.
-fn show_any(stdout: Stdout) -> Result<()> {
+fn show_any(stdout: Stdout) -> io::Result<()> {
     let mut table = [0.0; 15];
     replay::load(&answers::ANY, 0, &mut table);
     geopotential_legendre_mirror(4, &mut table);
@@ -31,7 +30,7 @@ fn show_any(stdout: Stdout) -> Result<()> {
 }
 
 // Second derivatives by `mirror`, and beside those at -t, with every zero +0.
-fn show_second(stdout: Stdout) -> Result<()> {
+fn show_second(stdout: Stdout) -> io::Result<()> {
     let mut table = [0.0; 10];
     replay::load(&answers::SECOND, 0, &mut table);
     geopotential_legendre_mirror(3, &mut table);
@@ -52,140 +51,131 @@ fn show_second(stdout: Stdout) -> Result<()> {
     )
 }
 
-// A list and a degree: due are the number and the list afterwards.
-fn show_mirror(stdout: Stdout, nmax: usize, table: &mut [f64], due: &[u64]) -> Result<()>
-    requires { (length table.old ≤ 7) × (1 + length table.old ≤ length due.now) }
+// A list of N numbers and a degree by either entry: due are the number and the list afterwards.
+fn show_mirror<const N: usize, F: FnOnce(usize, &mut [f64]) -> u32>(
+    stdout: Stdout,
+    entry: F,
+    refusal_name: &[u8],
+    table_name: &[u8],
+    nmax: usize,
+    due: &[u64],
+) -> io::Result<()>
+    requires entry { F.IsAlwaysCallable entry }
+    requires names { (length refusal_name.now ≤ 80) × (length table_name.now ≤ 80) }
+    requires due { (N ≤ 7) × (1 + N ≤ length due.now) }
 {
-    replay::load(&answers::MIRROR_BEFORE, 0, table);
-    let number = geopotential_legendre_mirror(nmax, table);
-    show_words(
+    let mut table = [0.0; N];
+    replay::load(&answers::MIRROR_BEFORE, 0, &mut table);
+    let number = entry(nmax, &mut table);
+    show_words(stdout, refusal_name, &[number as u64], due, 0)?;
+    show(stdout, table_name, &table, due, 1)
+}
+
+fn show_values<const N: usize>(stdout: Stdout, nmax: usize, due: &[u64]) -> io::Result<()>
+    requires { (N ≤ 7) × (1 + N ≤ length due.now) }
+{
+    show_mirror::<N, _>(
         stdout,
+        geopotential_legendre_mirror,
         b"legendre_mirror, refusal ",
-        &[number as u64],
+        b"legendre_mirror, table ",
+        nmax,
         due,
-        0,
-    )?;
-    show(stdout, b"legendre_mirror, table ", table, due, 1)
-}
-
-fn show_mirror_derivative(stdout: Stdout, nmax: usize, table: &mut [f64], due: &[u64]) -> Result<()>
-    requires { (length table.old ≤ 7) × (1 + length table.old ≤ length due.now) }
-{
-    replay::load(&answers::MIRROR_BEFORE, 0, table);
-    let number = geopotential_legendre_mirror_derivative(nmax, table);
-    show_words(
-        stdout,
-        b"legendre_mirror_derivative, refusal ",
-        &[number as u64],
-        due,
-        0,
-    )?;
-    show(stdout, b"legendre_mirror_derivative, table ", table, due, 1)
-}
-
-// A table of degree 2, a number less, a number more, and a degree that is refused.
-fn show_sizes(stdout: Stdout) -> Result<()> {
-    let mut table = [0.0; 6];
-    let mut short = [0.0; 5];
-    let mut long = [0.0; 7];
-    show_mirror(stdout, 2, &mut table, &answers::MIRROR)?;
-    show_mirror(stdout, 2, &mut short, &answers::MIRROR_SHORT)?;
-    show_mirror(stdout, 2, &mut long, &answers::MIRROR_LONG)?;
-    show_mirror(stdout, 2701, &mut table, &answers::MIRROR_BEYOND)
-}
-
-fn show_sizes_derivative(stdout: Stdout) -> Result<()> {
-    let mut table = [0.0; 6];
-    let mut short = [0.0; 5];
-    let mut long = [0.0; 7];
-    show_mirror_derivative(stdout, 2, &mut table, &answers::MIRROR_DERIVATIVE)?;
-    show_mirror_derivative(stdout, 2, &mut short, &answers::MIRROR_DERIVATIVE_SHORT)?;
-    show_mirror_derivative(stdout, 2, &mut long, &answers::MIRROR_DERIVATIVE_LONG)?;
-    show_mirror_derivative(stdout, 2701, &mut table, &answers::MIRROR_DERIVATIVE_BEYOND)
-}
-
-// What is told of the list of both, with a place behind the length.
-fn show_told(stdout: Stdout, nmax: usize, due: &[u64; 3]) -> Result<()> {
-    let mut l = [MARK_LENGTH; 2];
-    let number = geopotential_legendre_mirror_lengths(nmax, &mut l);
-    let told = [number as u64, l[0] as u64, l[1] as u64];
-    show_words(stdout, b"legendre_mirror_lengths ", &told, due, 0)?;
-    l = [MARK_LENGTH; 2];
-    let other = geopotential_legendre_mirror_derivative_lengths(nmax, &mut l);
-    let also = [other as u64, l[0] as u64, l[1] as u64];
-    show_words(
-        stdout,
-        b"legendre_mirror_derivative_lengths ",
-        &also,
-        due,
-        0,
     )
 }
 
-// With one place, just enough.
-fn show_told_one(stdout: Stdout) -> Result<()> {
-    let mut l = [MARK_LENGTH; 1];
-    let number = geopotential_legendre_mirror_lengths(3, &mut l);
-    let told = [number as u64, l[0] as u64];
-    show_words(
+fn show_derivatives<const N: usize>(stdout: Stdout, nmax: usize, due: &[u64]) -> io::Result<()>
+    requires { (N ≤ 7) × (1 + N ≤ length due.now) }
+{
+    show_mirror::<N, _>(
         stdout,
-        b"legendre_mirror_lengths, one place ",
-        &told,
-        &answers::MIRROR_LENGTHS_ONE,
-        0,
+        geopotential_legendre_mirror_derivative,
+        b"legendre_mirror_derivative, refusal ",
+        b"legendre_mirror_derivative, table ",
+        nmax,
+        due,
+    )
+}
+
+// A table of degree 2, a number less, a number more, and a degree that is refused.
+fn show_sizes(stdout: Stdout) -> io::Result<()> {
+    show_values::<6>(stdout, 2, &answers::MIRROR)?;
+    show_values::<5>(stdout, 2, &answers::MIRROR_SHORT)?;
+    show_values::<7>(stdout, 2, &answers::MIRROR_LONG)?;
+    show_values::<6>(stdout, 2701, &answers::MIRROR_BEYOND)?;
+    show_derivatives::<6>(stdout, 2, &answers::MIRROR_DERIVATIVE)?;
+    show_derivatives::<5>(stdout, 2, &answers::MIRROR_DERIVATIVE_SHORT)?;
+    show_derivatives::<7>(stdout, 2, &answers::MIRROR_DERIVATIVE_LONG)?;
+    show_derivatives::<6>(stdout, 2701, &answers::MIRROR_DERIVATIVE_BEYOND)
+}
+
+// What is told of the list of both, in a list of lengths with as many places as are due.
+fn show_told(
+    stdout: Stdout,
+    name: &[u8],
+    derivative_name: &[u8],
+    nmax: usize,
+    due: &[u64],
+) -> io::Result<()>
+    requires names { (length name.now ≤ 80) × (length derivative_name.now ≤ 80) }
+    requires due { (1 ≤ length due.now) × (length due.now ≤ 12) }
+{
+    print_lengths(
+        stdout,
+        name,
+        |l| geopotential_legendre_mirror_lengths(nmax, l),
+        due,
     )?;
-    l = [MARK_LENGTH; 1];
-    let other = geopotential_legendre_mirror_derivative_lengths(3, &mut l);
-    let also = [other as u64, l[0] as u64];
-    show_words(
+    print_lengths(
         stdout,
-        b"legendre_mirror_derivative_lengths, one place ",
-        &also,
-        &answers::MIRROR_LENGTHS_ONE,
-        0,
+        derivative_name,
+        |l| geopotential_legendre_mirror_derivative_lengths(nmax, l),
+        due,
+    )
+}
+
+// With a place behind the length.
+fn show_both(stdout: Stdout, nmax: usize, due: &[u64; 3]) -> io::Result<()> {
+    show_told(
+        stdout,
+        b"legendre_mirror_lengths ",
+        b"legendre_mirror_derivative_lengths ",
+        nmax,
+        due,
     )
 }
 
 // With no place for it.
-fn show_told_short(stdout: Stdout, nmax: usize, l: &mut [usize], due: &[u64; 1]) -> Result<()> {
-    let number = geopotential_legendre_mirror_lengths(nmax, l);
-    let other = geopotential_legendre_mirror_derivative_lengths(nmax, l);
-    show_words(
+fn show_short(stdout: Stdout, nmax: usize, due: &[u64; 1]) -> io::Result<()> {
+    show_told(
         stdout,
         b"legendre_mirror_lengths, no place ",
-        &[number as u64],
-        due,
-        0,
-    )?;
-    show_words(
-        stdout,
         b"legendre_mirror_derivative_lengths, no place ",
-        &[other as u64],
+        nmax,
         due,
-        0,
     )
 }
 
-fn show_lengths(stdout: Stdout) -> Result<()> {
-    show_told(stdout, 3, &answers::MIRROR_LENGTHS)?;
-    show_told(stdout, 2700, &answers::MIRROR_LENGTHS_LARGE)?;
-    show_told(stdout, 2701, &answers::MIRROR_LENGTHS_BEYOND)?;
-    show_told(stdout, 4294967299, &answers::MIRROR_LENGTHS_WIDE)?;
-    show_told(stdout, 9223372036854775811, &answers::MIRROR_LENGTHS_WIDEST)?;
-    show_told_one(stdout)?;
-    let mut l = [MARK_LENGTH; 1];
-    let end = 0;
-    show_told_short(stdout, 3, &mut l[..end], &answers::MIRROR_LENGTHS_SHORT)?;
-    show_told_short(
+fn show_lengths(stdout: Stdout) -> io::Result<()> {
+    show_both(stdout, 3, &answers::MIRROR_LENGTHS)?;
+    show_both(stdout, 2700, &answers::MIRROR_LENGTHS_LARGE)?;
+    show_both(stdout, 2701, &answers::MIRROR_LENGTHS_BEYOND)?;
+    show_both(stdout, 4294967299, &answers::MIRROR_LENGTHS_WIDE)?;
+    show_both(stdout, 9223372036854775811, &answers::MIRROR_LENGTHS_WIDEST)?;
+    // with one place, just enough
+    show_told(
         stdout,
-        2701,
-        &mut l[..end],
-        &answers::MIRROR_LENGTHS_BEYOND_SHORT,
-    )
+        b"legendre_mirror_lengths, one place ",
+        b"legendre_mirror_derivative_lengths, one place ",
+        3,
+        &answers::MIRROR_LENGTHS_ONE,
+    )?;
+    show_short(stdout, 3, &answers::MIRROR_LENGTHS_SHORT)?;
+    show_short(stdout, 2701, &answers::MIRROR_LENGTHS_BEYOND_SHORT)
 }
 
 // The last two rows of a table up to degree 22.
-fn show_rows(stdout: Stdout, name: &[u8], table: &[f64], due: &[u64; 45]) -> Result<()>
+fn show_rows(stdout: Stdout, name: &[u8], table: &[f64], due: &[u64; 45]) -> io::Result<()>
     requires { (length table.now ≡ 276) × (length name.now ≤ 80) }
 {
     let from = 231;
@@ -193,7 +183,7 @@ fn show_rows(stdout: Stdout, name: &[u8], table: &[f64], due: &[u64; 45]) -> Res
 }
 
 // A table of ones.
-fn show_large(stdout: Stdout) -> Result<()> {
+fn show_large(stdout: Stdout) -> io::Result<()> {
     let mut table = [1.0; 276];
     geopotential_legendre_mirror(22, &mut table);
     show_rows(
@@ -212,11 +202,10 @@ fn show_large(stdout: Stdout) -> Result<()> {
     )
 }
 
-pub fn show_lists(stdout: Stdout) -> Result<()> {
+pub fn show_lists(stdout: Stdout) -> io::Result<()> {
     show_any(stdout)?;
     show_second(stdout)?;
     show_sizes(stdout)?;
-    show_sizes_derivative(stdout)?;
     show_large(stdout)?;
     show_lengths(stdout)
 }

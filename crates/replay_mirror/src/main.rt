@@ -7,9 +7,9 @@ mod examples;
 mod lists;
 mod refusals;
 
-use std::io::Result;
+use std::io;
 
-fn main(rt: HostRuntime) -> Result<()> {
+fn main(rt: HostRuntime) -> io::Result<()> {
     let stdout = rt.stdout();
     replay_cases::control(stdout)?;
     examples::show_examples(stdout)?;

@@ -7,19 +7,13 @@ mod fields;
 
 ghost use Rattle.std.specs.Prelude.{◌*◌, ◌≤◌, length};
 
-use coefficients::{Date, Head, Model, TideSystem};
+use coefficients::{Head, TideSystem};
 use functional::Functional;
-use refusal::{Answer, Number};
+use replay::numbers;
+use replay_cases::bits;
 use replay_print::{show, show_words};
-use std::io::{Result, Stdout};
-
-// The bits of an answer; those of a signalling NaN, which no answer has, for a refusal.
-fn bits(a: Number) -> u64 {
-    match a {
-        Number::Value(x) => number::bits_of_number(x),
-        Number::Refused(_) => 0x7ff0_0000_0000_0001,
-    }
-}
+use std::io;
+use std::io::Stdout;
 
 // The factor of a row: its degree, gm, radius, r, and the Love number at every degree.
 fn factor(f: Functional, n: u64, gm: u64, radius: u64, r: u64, love: u64) -> u64 {
@@ -37,22 +31,12 @@ fn factor(f: Functional, n: u64, gm: u64, radius: u64, r: u64, love: u64) -> u64
 fn factors_of(f: Functional, rows: &[u64], out: &mut [u64])
     requires { 5 * length out.old ≤ length rows.now }
 {
-    let mut i = 0;
-    while i < out.len() {
-        let at = 5 * i;
-        out[i] = factor(
-            f,
-            rows[at],
-            rows[at + 1],
-            rows[at + 2],
-            rows[at + 3],
-            rows[at + 4],
-        );
-        i += 1;
+    for (x, row) in out.iter_mut().zip(rows.chunks_exact(5)) {
+        *x = factor(f, row[0], row[1], row[2], row[3], row[4]);
     }
 }
 
-fn show_factors(stdout: Stdout, name: &[u8], f: Functional, due: &[u64; 31]) -> Result<()>
+fn show_factors(stdout: Stdout, name: &[u8], f: Functional, due: &[u64; 31]) -> io::Result<()>
     requires { length name.now ≤ 80 }
 {
     let mut out = [0; 31];
@@ -60,18 +44,12 @@ fn show_factors(stdout: Stdout, name: &[u8], f: Functional, due: &[u64; 31]) -> 
     show_words(stdout, name, &out, due, 0)
 }
 
-fn numbers(words: &[u64; 10]) -> [f64; 10] {
-    let mut out = [0.0; 10];
-    replay::load(words, 0, &mut out);
-    out
-}
-
 fn head_of(words: &[u64; 4]) -> Head {
     Head {
         gm: number::number_of_bits(words[0]),
         radius: number::number_of_bits(words[1]),
         tide_system: TideSystem::Unknown,
-        date: Date::None,
+        date: None,
         nmax: 3,
     }
 }
@@ -82,11 +60,11 @@ fn show_variances(
     c: &[f64; 10],
     s: &[f64; 10],
     due: &[u64; 4],
-) -> Result<()> {
+) -> io::Result<()> {
     let mut out = [0.0; 4];
     match head.degree_variances(c, s, &mut out) {
-        Answer::Done => show(stdout, b"degree_variances ", &out, due, 0)?,
-        Answer::Refused(_) => {
+        Ok(()) => show(stdout, b"degree_variances ", &out, due, 0)?,
+        Err(_) => {
             replay_print::print(stdout, b"degree_variances refused\n")?;
         }
     }
@@ -101,15 +79,14 @@ fn show_amplitudes(
     s: &[f64; 10],
     f: Functional,
     due: &[u64; 4],
-) -> Result<()>
+) -> io::Result<()>
     requires { length name.now ≤ 80 }
 {
-    let mut love = [0.0; 4];
-    replay::load(&fields::LOVE, 0, &mut love);
+    let love = numbers(&fields::LOVE);
     let mut out = [0.0; 4];
     match head.degree_amplitudes(c, s, f, &love, &mut out) {
-        Answer::Done => show(stdout, name, &out, due, 0)?,
-        Answer::Refused(_) => {
+        Ok(()) => show(stdout, name, &out, due, 0)?,
+        Err(_) => {
             replay_print::print(stdout, b"degree_amplitudes refused\n")?;
         }
     }
@@ -124,17 +101,17 @@ fn show_rescaled(
     words: &[u64; 4],
     duec: &[u64; 10],
     dues: &[u64; 10],
-) -> Result<()> {
+) -> io::Result<()> {
     let mut outc = [0.0; 10];
     let mut outs = [0.0; 10];
     let gm = number::number_of_bits(words[2]);
     let radius = number::number_of_bits(words[3]);
     match head.rescaled(c, s, gm, radius, &mut outc, &mut outs) {
-        Model::Made(_) => {
+        Ok(_) => {
             show(stdout, b"rescaled c ", &outc, duec, 0)?;
             show(stdout, b"rescaled s ", &outs, dues, 0)?;
         }
-        Model::Refused(_) => {
+        Err(_) => {
             replay_print::print(stdout, b"rescaled refused\n")?;
         }
     }
@@ -151,16 +128,16 @@ fn show_truncated(
     dues: &[u64; 6],
     againc: &[u64; 3],
     agains: &[u64; 3],
-) -> Result<()> {
+) -> io::Result<()> {
     let mut outc = [0.0; 6];
     let mut outs = [0.0; 6];
     match head.truncated(c, s, 2, &mut outc, &mut outs) {
-        Model::Made(cut) => {
+        Ok(cut) => {
             show(stdout, b"truncated c ", &outc, duec, 0)?;
             show(stdout, b"truncated s ", &outs, dues, 0)?;
             show_truncated_again(stdout, cut, &outc, &outs, againc, agains)?;
         }
-        Model::Refused(_) => {
+        Err(_) => {
             replay_print::print(stdout, b"truncated refused\n")?;
         }
     }
@@ -174,16 +151,16 @@ fn show_truncated_again(
     s: &[f64; 6],
     duec: &[u64; 3],
     dues: &[u64; 3],
-) -> Result<()> {
+) -> io::Result<()> {
     let mut outc = [0.0; 3];
     let mut outs = [0.0; 3];
     match head.truncated(c, s, 1, &mut outc, &mut outs) {
-        Model::Made(cut) => {
+        Ok(cut) => {
             show(stdout, b"truncated again c ", &outc, duec, 0)?;
             show(stdout, b"truncated again s ", &outs, dues, 0)?;
             show_truncated_above(stdout, cut, &outc, &outs, duec, dues)?;
         }
-        Model::Refused(_) => {
+        Err(_) => {
             replay_print::print(stdout, b"truncated again refused\n")?;
         }
     }
@@ -197,15 +174,15 @@ fn show_truncated_above(
     s: &[f64; 3],
     duec: &[u64; 3],
     dues: &[u64; 3],
-) -> Result<()> {
+) -> io::Result<()> {
     let mut outc = [0.0; 3];
     let mut outs = [0.0; 3];
     match head.truncated(c, s, 2, &mut outc, &mut outs) {
-        Model::Made(_) => {
+        Ok(_) => {
             show(stdout, b"truncated above c ", &outc, duec, 0)?;
             show(stdout, b"truncated above s ", &outs, dues, 0)?;
         }
-        Model::Refused(_) => {
+        Err(_) => {
             replay_print::print(stdout, b"truncated above refused\n")?;
         }
     }
@@ -213,15 +190,15 @@ fn show_truncated_above(
 }
 
 // Both lists whole after `zeros` up to degree 3, with a place behind each, which keeps what it held.
-fn show_zeros(stdout: Stdout) -> Result<()> {
+fn show_zeros(stdout: Stdout) -> io::Result<()> {
     let mut c = [0.5; 11];
     let mut s = [0.75; 11];
     match Head::zeros(8.0, 2.0, 3, &mut c, &mut s) {
-        Model::Made(_) => {
+        Ok(_) => {
             show(stdout, b"zeros c ", &c, &fields::ZEROS_C, 0)?;
             show(stdout, b"zeros s ", &s, &fields::ZEROS_S, 0)?;
         }
-        Model::Refused(_) => {
+        Err(_) => {
             replay_print::print(stdout, b"zeros refused\n")?;
         }
     }
@@ -236,17 +213,17 @@ fn show_set(
     s: &[u64; 10],
     duec: &[u64; 10],
     dues: &[u64; 10],
-) -> Result<()> {
+) -> io::Result<()> {
     let mut outc = numbers(c);
     let mut outs = numbers(s);
     let cnm = number::number_of_bits(fields::SET[0]);
     let snm = number::number_of_bits(fields::SET[1]);
     match head.set(&mut outc, &mut outs, 2, 1, cnm, snm) {
-        Answer::Done => {
+        Ok(()) => {
             show(stdout, b"set c ", &outc, duec, 0)?;
             show(stdout, b"set s ", &outs, dues, 0)?;
         }
-        Answer::Refused(_) => {
+        Err(_) => {
             replay_print::print(stdout, b"set refused\n")?;
         }
     }
@@ -254,7 +231,7 @@ fn show_set(
 }
 
 // The field with special numbers.
-fn special(stdout: Stdout) -> Result<()> {
+fn special(stdout: Stdout) -> io::Result<()> {
     let c = numbers(&fields::C);
     let s = numbers(&fields::S);
     let head = head_of(&fields::HEAD);
@@ -307,7 +284,7 @@ fn special(stdout: Stdout) -> Result<()> {
 }
 
 // The field with ordinary numbers.
-fn ordinary(stdout: Stdout) -> Result<()> {
+fn ordinary(stdout: Stdout) -> io::Result<()> {
     let c = numbers(&fields::ORDINARY_C);
     let s = numbers(&fields::ORDINARY_S);
     let head = head_of(&fields::ORDINARY_HEAD);
@@ -359,7 +336,7 @@ fn ordinary(stdout: Stdout) -> Result<()> {
     )
 }
 
-fn all_factors(stdout: Stdout) -> Result<()> {
+fn all_factors(stdout: Stdout) -> io::Result<()> {
     show_factors(
         stdout,
         b"factor Potential ",
@@ -398,7 +375,7 @@ fn all_factors(stdout: Stdout) -> Result<()> {
     )
 }
 
-fn main(rt: HostRuntime) -> Result<()> {
+fn main(rt: HostRuntime) -> io::Result<()> {
     let stdout = rt.stdout();
     replay_print::control(stdout)?;
     all_factors(stdout)?;

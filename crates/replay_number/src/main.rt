@@ -5,47 +5,28 @@ mod answers;
 
 ghost use Rattle.std.specs.Prelude.{◌+◌, ◌≤◌, length};
 
+use number::{bits_of_number, number_of_bits};
 use replay_print::show_words;
-use std::io::{Result, Stdout};
+use std::io;
+use std::io::Stdout;
 
-// The call of a group: which one is told by the group's number.
-fn answer(group: u64, x: u64, y: u64) -> u64 {
-    let a = number::number_of_bits(x);
-    let b = number::number_of_bits(y);
-    match group {
-        0 => number::bits_of_number(number::root(a)),
-        1 => number::bits_of_number(number::hypot(a, b)),
-        2 => number::bits_of_number(number::powi(a, y as usize)),
-        3 => number::bits_of_number(number::signum(a)),
-        4 => number::bits_of_number(number::magnitude(a)),
-        5 => flag(number::ranks_before(a, b)),
-        _ => number::bits_of_number(a),
+// The answers of a call of one number.
+fn of_one<F: Fn(f64) -> f64>(call: F, inputs: &[u64], out: &mut [u64])
+    requires call { F.IsAlwaysCallable call }
+    requires inputs { length out.old ≤ length inputs.now }
+{
+    for (x, input) in out.iter_mut().zip(inputs) {
+        *x = bits_of_number(call(number_of_bits(*input)));
     }
 }
 
-fn flag(b: bool) -> u64 {
-    if b { 1 } else { 0 }
-}
-
-// The answers of a group of one input.
-fn of_one(group: u64, inputs: &[u64], out: &mut [u64])
-    requires { length out.old ≤ length inputs.now }
+// The answers of a call of two words.
+fn of_two<F: Fn(u64, u64) -> u64>(call: F, inputs: &[u64], out: &mut [u64])
+    requires call { F.IsAlwaysCallable call }
+    requires inputs { length out.old + length out.old ≤ length inputs.now }
 {
-    let mut i = 0;
-    while i < out.len() {
-        out[i] = answer(group, inputs[i], 0);
-        i += 1;
-    }
-}
-
-// The answers of a group of two inputs.
-fn of_two(group: u64, inputs: &[u64], out: &mut [u64])
-    requires { length out.old + length out.old ≤ length inputs.now }
-{
-    let mut i = 0;
-    while i < out.len() {
-        out[i] = answer(group, inputs[2 * i], inputs[2 * i + 1]);
-        i += 1;
+    for (x, two) in out.iter_mut().zip(inputs.chunks_exact(2)) {
+        *x = call(two[0], two[1]);
     }
 }
 
@@ -58,8 +39,8 @@ fn in_order(list: &[u64], i: u64, j: u64) -> bool {
     if j >= n {
         return false;
     }
-    let x = number::number_of_bits(list[i as usize]);
-    let y = number::number_of_bits(list[j as usize]);
+    let x = number_of_bits(list[i as usize]);
+    let y = number_of_bits(list[j as usize]);
     if number::ranks_before(x, y) {
         return true;
     }
@@ -73,39 +54,51 @@ fn in_order(list: &[u64], i: u64, j: u64) -> bool {
 fn neighbours(list: &[u64], order: &[u64], out: &mut [u64])
     requires { length out.old + 1 ≤ length order.now }
 {
-    let mut i = 0;
-    while i < out.len() {
-        out[i] = flag(in_order(list, order[i], order[i + 1]));
-        i += 1;
+    for (x, two) in out.iter_mut().zip(order.windows(2)) {
+        *x = u64::from(in_order(list, two[0], two[1]));
     }
 }
 
 // The line of a ranking: each two neighbours are due in order.
-fn ranking(stdout: Stdout, name: &[u8], list: &[u64], order: &[u64], out: &mut [u64]) -> Result<()>
+fn ranking(
+    stdout: Stdout,
+    name: &[u8],
+    list: &[u64],
+    order: &[u64],
+    out: &mut [u64],
+) -> io::Result<()>
     requires { (length out.old + 1 ≤ length order.now) × ((length out.old ≤ 16) × (length name.now ≤ 80)) }
 {
     neighbours(list, order, out);
     show_words(stdout, name, out, &[1; 16], 0)
 }
 
-fn roots(stdout: Stdout) -> Result<()> {
+fn roots(stdout: Stdout) -> io::Result<()> {
     let mut root = [0; 62];
-    of_one(0, &answers::ROOT, &mut root);
+    of_one(number::root, &answers::ROOT, &mut root);
     show_words(stdout, b"root ", &root, &answers::ROOT_ANSWERS, 0)?;
     let mut hypot = [0; 45];
-    of_two(1, &answers::HYPOT, &mut hypot);
+    of_two(
+        |x, y| bits_of_number(number::hypot(number_of_bits(x), number_of_bits(y))),
+        &answers::HYPOT,
+        &mut hypot,
+    );
     show_words(stdout, b"hypot ", &hypot, &answers::HYPOT_ANSWERS, 0)?;
     let mut powi = [0; 53];
-    of_two(2, &answers::POWI, &mut powi);
+    of_two(
+        |x, n| bits_of_number(number::powi(number_of_bits(x), n as usize)),
+        &answers::POWI,
+        &mut powi,
+    );
     show_words(stdout, b"powi ", &powi, &answers::POWI_ANSWERS, 0)
 }
 
-fn signs(stdout: Stdout) -> Result<()> {
+fn signs(stdout: Stdout) -> io::Result<()> {
     let mut signum = [0; 16];
-    of_one(3, &answers::SIGNUM, &mut signum);
+    of_one(number::signum, &answers::SIGNUM, &mut signum);
     show_words(stdout, b"signum ", &signum, &answers::SIGNUM_ANSWERS, 0)?;
     let mut magnitude = [0; 16];
-    of_one(4, &answers::MAGNITUDE, &mut magnitude);
+    of_one(number::magnitude, &answers::MAGNITUDE, &mut magnitude);
     show_words(
         stdout,
         b"magnitude ",
@@ -114,7 +107,11 @@ fn signs(stdout: Stdout) -> Result<()> {
         0,
     )?;
     let mut ranks = [0; 35];
-    of_two(5, &answers::RANKS_BEFORE, &mut ranks);
+    of_two(
+        |x, y| u64::from(number::ranks_before(number_of_bits(x), number_of_bits(y))),
+        &answers::RANKS_BEFORE,
+        &mut ranks,
+    );
     show_words(
         stdout,
         b"ranks_before ",
@@ -123,7 +120,7 @@ fn signs(stdout: Stdout) -> Result<()> {
         0,
     )?;
     let mut patterns = [0; 24];
-    of_one(6, &answers::PATTERNS, &mut patterns);
+    of_one(|x| x, &answers::PATTERNS, &mut patterns);
     show_words(
         stdout,
         b"patterns ",
@@ -133,7 +130,7 @@ fn signs(stdout: Stdout) -> Result<()> {
     )
 }
 
-fn short_rankings(stdout: Stdout) -> Result<()> {
+fn short_rankings(stdout: Stdout) -> io::Result<()> {
     let mut of_2 = [0; 1];
     ranking(
         stdout,
@@ -160,7 +157,7 @@ fn short_rankings(stdout: Stdout) -> Result<()> {
     )
 }
 
-fn long_rankings(stdout: Stdout) -> Result<()> {
+fn long_rankings(stdout: Stdout) -> io::Result<()> {
     let mut of_6 = [0; 5];
     ranking(
         stdout,
@@ -187,7 +184,7 @@ fn long_rankings(stdout: Stdout) -> Result<()> {
     )
 }
 
-fn main(rt: HostRuntime) -> Result<()> {
+fn main(rt: HostRuntime) -> io::Result<()> {
     let stdout = rt.stdout();
     replay_print::control(stdout)?;
     roots(stdout)?;

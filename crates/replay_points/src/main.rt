@@ -7,23 +7,16 @@ mod points;
 
 ghost use Rattle.std.specs.Prelude.{◌<◌};
 
-use coefficients::{Date, Head, Model, TideSystem};
+use coefficients::Head;
 use functional::Functional;
 use legendre::Latitude;
-use local::{Partials, Point};
-use refusal::Answer;
+use local::Partials;
+use refusal::Refusal;
+use replay::numbers;
+use replay_cases::{earth, latitude_of};
 use replay_print::{show, show_words};
-use std::io::{Result, Stdout};
-
-fn head() -> Head {
-    Head {
-        gm: 398600441500000.0,
-        radius: 6378136.3,
-        tide_system: TideSystem::Unknown,
-        date: Date::None,
-        nmax: 4,
-    }
-}
+use std::io;
+use std::io::Stdout;
 
 // All points at once.
 fn show_along(
@@ -31,21 +24,18 @@ fn show_along(
     cbits: &[u64; 15],
     sbits: &[u64; 15],
     words: &[u64; 20],
-) -> Result<()> {
-    let mut c = [0.0; 15];
-    let mut s = [0.0; 15];
-    let mut radii = [0.0; 5];
+) -> io::Result<()> {
     let mut latitudes = [0.0; 10];
     let mut trig = [0.0; 50];
-    replay::load(cbits, 0, &mut c);
-    replay::load(sbits, 0, &mut s);
-    replay::load(&points::RADII, 0, &mut radii);
+    let c = numbers(cbits);
+    let s = numbers(sbits);
+    let radii = numbers(&points::RADII);
     replay::load(&points::LATITUDES, 0, &mut latitudes);
     replay::load(&points::TRIG, 0, &mut trig);
     let mut work = [0.0; 60];
     let mut out = [0.0; 20];
     match partials::partials_along(
-        head(),
+        earth(4),
         &c,
         &s,
         5,
@@ -55,8 +45,8 @@ fn show_along(
         &mut work,
         &mut out,
     ) {
-        Answer::Done => show(stdout, b"partials_along ", &out, words, 0)?,
-        Answer::Refused(_) => {
+        Ok(()) => show(stdout, b"partials_along ", &out, words, 0)?,
+        Err(_) => {
             replay_print::print(stdout, b"partials_along refused\n")?;
         }
     }
@@ -71,7 +61,7 @@ fn show_local(
     r: f64,
     latitude: Latitude,
     words: &[u64; 30],
-) -> Result<()>
+) -> io::Result<()>
     requires { i < 5 }
 {
     let acceleration = at.acceleration_neu(r, latitude);
@@ -80,31 +70,18 @@ fn show_local(
     show(stdout, b"gravity_neu ", &gravity, words, 6 * i + 3)
 }
 
-fn latitude_of(i: usize) -> Latitude
-    requires { i < 5 }
-{
-    let mut pair = [0.0; 2];
-    replay::load(&points::LATITUDES, 2 * i, &mut pair);
-    Latitude {
-        t: pair[0],
-        u: pair[1],
-    }
-}
-
 // Point i by itself.
-fn partials_at(i: usize, cbits: &[u64; 15], sbits: &[u64; 15]) -> Point
+fn partials_at(i: usize, cbits: &[u64; 15], sbits: &[u64; 15]) -> Result<Partials, Refusal>
     requires { i < 5 }
 {
     let mut trig = [0.0; 10];
     replay::load(&points::TRIG, 10 * i, &mut trig);
     let r = number::number_of_bits(points::RADII[i]);
-    let latitude = latitude_of(i);
-    let mut c = [0.0; 15];
-    let mut s = [0.0; 15];
-    replay::load(cbits, 0, &mut c);
-    replay::load(sbits, 0, &mut s);
+    let latitude = latitude_of(&points::LATITUDES, i);
+    let c = numbers(cbits);
+    let s = numbers(sbits);
     let mut work = [0.0; 60];
-    partials::partials(head(), &c, &s, r, latitude, &trig, &mut work)
+    partials::partials(earth(4), &c, &s, r, latitude, &trig, &mut work)
 }
 
 fn show_point(
@@ -114,17 +91,17 @@ fn show_point(
     sbits: &[u64; 15],
     words: &[u64; 20],
     local: &[u64; 30],
-) -> Result<()>
+) -> io::Result<()>
     requires { i < 5 }
 {
     match partials_at(i, cbits, sbits) {
-        Point::At(at) => {
+        Ok(at) => {
             let four = [at.v, at.dr, at.dlat, at.dlon];
             show(stdout, b"partials ", &four, words, 4 * i)?;
             let r = number::number_of_bits(points::RADII[i]);
-            show_local(stdout, i, at, r, latitude_of(i), local)?;
+            show_local(stdout, i, at, r, latitude_of(&points::LATITUDES, i), local)?;
         }
-        Point::Refused(_) => {
+        Err(_) => {
             replay_print::print(stdout, b"partials refused\n")?;
         }
     }
@@ -137,7 +114,7 @@ fn show_points(
     sbits: &[u64; 15],
     words: &[u64; 20],
     local: &[u64; 30],
-) -> Result<()> {
+) -> io::Result<()> {
     show_along(stdout, cbits, sbits, words)?;
     show_point(stdout, 0, cbits, sbits, words, local)?;
     show_point(stdout, 1, cbits, sbits, words, local)?;
@@ -147,7 +124,7 @@ fn show_points(
 }
 
 // What analysis made: the head's gm and radius, the numbers of its tide and its degree.
-fn show_head(stdout: Stdout, model: Head) -> Result<()> {
+fn show_head(stdout: Stdout, model: Head) -> io::Result<()> {
     show(
         stdout,
         b"analysis gm, radius ",
@@ -159,7 +136,7 @@ fn show_head(stdout: Stdout, model: Head) -> Result<()> {
     show_words(
         stdout,
         b"analysis tide, nmax ",
-        &[coefficients::tide_number(tide) as u64, model.nmax as u64],
+        &[u64::from(u32::from(tide)), model.nmax as u64],
         &models::OTHER_NUMBERS,
         0,
     )
@@ -172,15 +149,12 @@ fn show_analysis(
     wbits: &[u64; 4],
     vbits: &[u64; 32],
     words: &[u64; 20],
-) -> Result<()> {
-    let mut values = [0.0; 32];
-    let mut love = [0.0; 4];
-    let mut weights = [0.0; 4];
+) -> io::Result<()> {
     let mut latitudes = [0.0; 8];
     let mut trig = [0.0; 64];
-    replay::load(vbits, 0, &mut values);
-    replay::load(&models::LOVE, 0, &mut love);
-    replay::load(wbits, 0, &mut weights);
+    let values = numbers(vbits);
+    let love = numbers(&models::LOVE);
+    let weights = numbers(wbits);
     replay::load(&models::LATITUDES, 0, &mut latitudes);
     replay::load(&models::TRIG, 0, &mut trig);
     let mut work = [0.0; 30];
@@ -201,19 +175,19 @@ fn show_analysis(
         &mut c,
         &mut s,
     ) {
-        Model::Made(model) => {
+        Ok(model) => {
             show(stdout, b"analysis c ", &c, words, 0)?;
             show(stdout, b"analysis s ", &s, words, 10)?;
             show_head(stdout, model)?;
         }
-        Model::Refused(_) => {
+        Err(_) => {
             replay_print::print(stdout, b"analysis refused\n")?;
         }
     }
     Ok(())
 }
 
-fn analyses(stdout: Stdout) -> Result<()> {
+fn analyses(stdout: Stdout) -> io::Result<()> {
     show_analysis(
         stdout,
         Functional::GeoidHeight,
@@ -246,7 +220,7 @@ fn analyses(stdout: Stdout) -> Result<()> {
 }
 
 // Special values.
-fn special_analyses(stdout: Stdout) -> Result<()> {
+fn special_analyses(stdout: Stdout) -> io::Result<()> {
     show_analysis(
         stdout,
         Functional::GeoidHeight,
@@ -270,7 +244,7 @@ fn special_analyses(stdout: Stdout) -> Result<()> {
     )
 }
 
-fn main(rt: HostRuntime) -> Result<()> {
+fn main(rt: HostRuntime) -> io::Result<()> {
     let stdout = rt.stdout();
     replay_print::control(stdout)?;
     show_points(

@@ -4,20 +4,35 @@
 
 ghost use Rattle.std.specs.Prelude.{◌+◌, ◌≤◌, length};
 
-use std::io::{Result, Stdout, Write};
+use std::io;
+use std::io::{Stdout, Write};
 
 // Prints the bytes as they are.
-pub fn print(mut stdout: Stdout, bytes: &[u8]) -> Result<()> {
+pub fn print(mut stdout: Stdout, bytes: &[u8]) -> io::Result<()> {
     stdout.write_all(bytes)
 }
 
 // Prints the line of numbers.
-pub fn show(stdout: Stdout, name: &[u8], answers: &[f64], words: &[u64], at: usize) -> Result<()>
+pub fn show(
+    stdout: Stdout,
+    name: &[u8],
+    answers: &[f64],
+    words: &[u64],
+    at: usize,
+) -> io::Result<()>
     requires { (at + length answers.now ≤ length words.now) × (length name.now ≤ 80) }
 {
     let mut out = [0u8; 125];
     let end = replay::line(name, answers, words, at, &mut out);
     print(stdout, &out[..end])
+}
+
+// Prints the line of the front of a list, as many numbers as there are due.
+pub fn show_front(stdout: Stdout, name: &[u8], list: &[f64], due: &[u64]) -> io::Result<()>
+    requires due { length due.now ≤ length list.now }
+    requires name { length name.now ≤ 80 }
+{
+    show(stdout, name, &list[..due.len()], due, 0)
 }
 
 // Prints the line of words.
@@ -27,7 +42,7 @@ pub fn show_words(
     answers: &[u64],
     words: &[u64],
     at: usize,
-) -> Result<()>
+) -> io::Result<()>
     requires { (at + length answers.now ≤ length words.now) × (length name.now ≤ 80) }
 {
     let mut out = [0u8; 125];
@@ -42,7 +57,7 @@ pub fn show_bytes(
     answers: &[u8],
     bytes: &[u8],
     at: usize,
-) -> Result<()>
+) -> io::Result<()>
     requires { (at + length answers.now ≤ length bytes.now) × (length name.now ≤ 80) }
 {
     let mut out = [0u8; 125];
@@ -52,7 +67,7 @@ pub fn show_bytes(
 
 // Prints three lines, one by each function above, of two answers whose second is not the one due. Nothing is promised of what is printed, so that a
 // function that holds a list against itself, or against another part of the list, is proved too; here it says something else than "1 of 2".
-pub fn control(stdout: Stdout) -> Result<()> {
+pub fn control(stdout: Stdout) -> io::Result<()> {
     show(
         stdout,
         b"control of numbers ",

@@ -5,13 +5,9 @@ use geopotential::analyses::geopotential_analysis;
 use geopotential::fields::{geopotential_basin_average, geopotential_grid};
 use geopotential::functionals::geopotential_factor;
 use geopotential::models::geopotential_degree_amplitudes;
-use geopotential::points::{
-    geopotential_acceleration_neu, geopotential_gravity_neu, geopotential_partials,
-};
+use geopotential::points::{geopotential_acceleration_neu, geopotential_gravity_neu};
 use geopotential::tables::geopotential_legendre_grow;
-use geopotential::tensors::{
-    geopotential_second_partials, geopotential_second_partials_along, geopotential_tensor_neu,
-};
+use geopotential::tensors::{geopotential_second_partials_along, geopotential_tensor_neu};
 use replay_cases::{MARK, column, room, size};
 
 // The number of a functional or of a tide, which may be any.
@@ -154,8 +150,23 @@ pub fn analysis(case: &[u64], list: &[f64], w: &mut [f64], x: &mut [f64], y: &mu
 
 // One point by the entry for the first derivatives, or by that for the second: N, and the lengths of c, s, of the cosines and sines, of the working list
 // and the output.
-pub fn partials(second: bool, case: &[u64], list: &[f64], w: &mut [f64], x: &mut [f64]) -> u64
-    requires { (64 ≤ length list.now) × (64 ≤ length w.old) × (64 ≤ length x.old) }
+pub fn partials<F>(entry: F, case: &[u64], list: &[f64], w: &mut [f64], x: &mut [f64]) -> u64
+where
+    F: FnOnce(
+        f64,
+        f64,
+        usize,
+        &[f64],
+        &[f64],
+        f64,
+        f64,
+        f64,
+        &[f64],
+        &mut [f64],
+        &mut [f64],
+    ) -> u32,
+    requires entry { F.IsAlwaysCallable entry }
+    requires lengths { (64 ≤ length list.now) × (64 ≤ length w.old) × (64 ≤ length x.old) }
 {
     let nmax = size(case, 0);
     let a = room(case, 1);
@@ -163,17 +174,20 @@ pub fn partials(second: bool, case: &[u64], list: &[f64], w: &mut [f64], x: &mut
     let g = room(case, 3);
     let k = room(case, 4);
     let o = room(case, 5);
-    let c = &list[..a];
-    let s = &list[..b];
-    let trig = &list[..g];
-    let work = &mut w[..k];
-    let out = &mut x[..o];
-    if second {
-        return geopotential_second_partials(
-            3.5, 7.25, nmax, c, s, 8.0, 0.6, 0.8, trig, work, out,
-        ) as u64;
-    }
-    geopotential_partials(3.5, 7.25, nmax, c, s, 8.0, 0.6, 0.8, trig, work, out) as u64
+    let number = entry(
+        3.5,
+        7.25,
+        nmax,
+        &list[..a],
+        &list[..b],
+        8.0,
+        0.6,
+        0.8,
+        &list[..g],
+        &mut w[..k],
+        &mut x[..o],
+    );
+    number as u64
 }
 
 // N, points, and the lengths of c, s, radii, latitudes, of the cosines and sines, of the working list and the output.

@@ -7,45 +7,26 @@ mod cases;
 mod entries;
 mod model_files;
 
-ghost use Rattle.std.specs.Prelude.{◌*◌, ◌≤◌, length};
+ghost use Rattle.std.specs.Prelude.{◌≤◌, length};
 
-use replay_cases::{MARK, Seen, joined, size, touched};
-use std::io::{Result, Stdout};
+use geopotential::points::geopotential_partials;
+use geopotential::tensors::geopotential_second_partials;
+use replay_cases::{MARK, Seen, joined, print_cases, size, touched};
+use std::io;
+use std::io::Stdout;
 
-// One case of an entry on numbers.
-fn answer(
-    which: usize,
+// What is seen of a case of an entry, on a list to be read and three that hold the mark; the last column says how much of the first of these is left free.
+fn see<F: Fn(&[u64], &[f64; 64], &mut [f64; 64], &mut [f64; 64], &mut [f64; 64]) -> u64>(
     case: &[u64],
-    list: &[f64],
-    w: &mut [f64],
-    x: &mut [f64],
-    y: &mut [f64],
-) -> u64
-    requires { (64 ≤ length list.now) × (64 ≤ length w.old) × (64 ≤ length x.old) × (64 ≤ length y.old) }
+    call: &F,
+) -> Seen
+    requires { F.IsAlwaysCallable call.now }
 {
-    match which {
-        0 => entries::factor(case, list, x),
-        1 => entries::degree_amplitudes(case, list, x),
-        2 => entries::grid(case, list, w, x),
-        3 => entries::basin_average(case, list, x),
-        4 => entries::analysis(case, list, w, x, y),
-        5 => entries::partials(false, case, list, w, x),
-        6 => entries::partials(true, case, list, w, x),
-        7 => entries::second_partials_along(case, list, w, x),
-        8 => entries::acceleration_neu(case, x),
-        9 => entries::gravity_neu(case, x),
-        10 => entries::tensor_neu(case, x),
-        _ => entries::legendre_grow(case, x, y),
-    }
-}
-
-// What is seen of it, on lists that hold the mark where they are written; the last column says how much of the working list is left free.
-fn show_numbers(which: usize, case: &[u64]) -> Seen {
     let list = [0.5; 64];
     let mut w = [MARK; 64];
     let mut x = [MARK; 64];
     let mut y = [MARK; 64];
-    let number = answer(which, case, &list, &mut w, &mut x, &mut y);
+    let number = call(case, &list, &mut w, &mut x, &mut y);
     let behind = touched(&w, size(case, 11));
     Seen {
         number,
@@ -53,111 +34,120 @@ fn show_numbers(which: usize, case: &[u64]) -> Seen {
     }
 }
 
-fn show(which: usize, case: &[u64]) -> Seen {
-    match which {
-        12 => model_files::show_read(case),
-        13 => model_files::show_write(case),
-        _ => show_numbers(which, case),
-    }
-}
-
-// All cases of an entry, twelve columns each: two words of each to the front of `out`.
-fn run(which: usize, cases: &[u64], out: &mut [u64])
-    requires { length cases.now ≤ 6 * length out.old }
+// All cases of an entry, twelve columns each.
+fn print<F: Fn(&[u64], &[f64; 64], &mut [f64; 64], &mut [f64; 64], &mut [f64; 64]) -> u64>(
+    stdout: Stdout,
+    name: &[u8],
+    call: F,
+    cases: &[u64],
+    due: &[u64],
+) -> io::Result<()>
+    requires call { F.IsAlwaysCallable call }
+    requires lengths { (length name.now ≤ 80) × ((length cases.now ≤ 1200) × (length due.now ≤ 200)) }
 {
-    let mut i = 0;
-    while i < cases.len() / 12 {
-        let at = 12 * i;
-        let end = at + 12;
-        let seen = show(which, &cases[at..end]);
-        out[2 * i] = seen.number;
-        out[2 * i + 1] = seen.touched;
-        i += 1;
-    }
+    print_cases(stdout, name, 12, |case| see(case, &call), cases, due)
 }
 
-fn print(stdout: Stdout, name: &[u8], which: usize, cases: &[u64], due: &[u64]) -> Result<()>
-    requires { (length name.now ≤ 80) × ((length cases.now ≤ 720) × (length due.now ≤ 120)) }
-{
-    let mut out = [0u64; 120];
-    run(which, cases, &mut out);
-    replay_cases::print_line(stdout, name, &out, due)
-}
-
-fn main(rt: HostRuntime) -> Result<()> {
+fn main(rt: HostRuntime) -> io::Result<()> {
     let stdout = rt.stdout();
     replay_cases::control(stdout)?;
-    print(stdout, b"factor ", 0, &cases::FACTOR, &cases::FACTOR_DUE)?;
+    print(
+        stdout,
+        b"factor ",
+        |case, list, _, x, _| entries::factor(case, list, x),
+        &cases::FACTOR,
+        &cases::FACTOR_DUE,
+    )?;
     print(
         stdout,
         b"degree_amplitudes ",
-        1,
+        |case, list, _, x, _| entries::degree_amplitudes(case, list, x),
         &cases::DEGREE_AMPLITUDES,
         &cases::DEGREE_AMPLITUDES_DUE,
     )?;
-    print(stdout, b"grid ", 2, &cases::GRID, &cases::GRID_DUE)?;
+    print(
+        stdout,
+        b"grid ",
+        |case, list, w, x, _| entries::grid(case, list, w, x),
+        &cases::GRID,
+        &cases::GRID_DUE,
+    )?;
     print(
         stdout,
         b"basin_average ",
-        3,
+        |case, list, _, x, _| entries::basin_average(case, list, x),
         &cases::BASIN_AVERAGE,
         &cases::BASIN_AVERAGE_DUE,
     )?;
     print(
         stdout,
         b"analysis ",
-        4,
+        |case, list, w, x, y| entries::analysis(case, list, w, x, y),
         &cases::ANALYSIS,
         &cases::ANALYSIS_DUE,
     )?;
     print(
         stdout,
         b"partials ",
-        5,
+        |case, list, w, x, _| entries::partials(geopotential_partials, case, list, w, x),
         &cases::PARTIALS,
         &cases::PARTIALS_DUE,
     )?;
     print(
         stdout,
         b"second_partials ",
-        6,
+        |case, list, w, x, _| entries::partials(geopotential_second_partials, case, list, w, x),
         &cases::SECOND_PARTIALS,
         &cases::SECOND_PARTIALS_DUE,
     )?;
     print(
         stdout,
         b"second_partials_along ",
-        7,
+        |case, list, w, x, _| entries::second_partials_along(case, list, w, x),
         &cases::SECOND_PARTIALS_ALONG,
         &cases::SECOND_PARTIALS_ALONG_DUE,
     )?;
     print(
         stdout,
         b"acceleration_neu ",
-        8,
+        |case, _, _, x, _| entries::acceleration_neu(case, x),
         &cases::THREE,
         &cases::THREE_DUE,
     )?;
-    print(stdout, b"gravity_neu ", 9, &cases::THREE, &cases::THREE_DUE)?;
-    print(stdout, b"tensor_neu ", 10, &cases::NINE, &cases::NINE_DUE)?;
+    print(
+        stdout,
+        b"gravity_neu ",
+        |case, _, _, x, _| entries::gravity_neu(case, x),
+        &cases::THREE,
+        &cases::THREE_DUE,
+    )?;
+    print(
+        stdout,
+        b"tensor_neu ",
+        |case, _, _, x, _| entries::tensor_neu(case, x),
+        &cases::NINE,
+        &cases::NINE_DUE,
+    )?;
     print(
         stdout,
         b"legendre_grow ",
-        11,
+        |case, _, _, x, y| entries::legendre_grow(case, x, y),
         &cases::LEGENDRE_GROW,
         &cases::LEGENDRE_GROW_DUE,
     )?;
-    print(
+    print_cases(
         stdout,
         b"model_read ",
         12,
+        model_files::see_read,
         &cases::MODEL_READ,
         &cases::MODEL_READ_DUE,
     )?;
-    print(
+    print_cases(
         stdout,
         b"model_write ",
-        13,
+        12,
+        model_files::see_write,
         &cases::MODEL_WRITE,
         &cases::MODEL_WRITE_DUE,
     )

@@ -5,22 +5,15 @@ use crate::cases;
 use crate::entries::enum_number;
 use geopotential::files::{geopotential_model_read, geopotential_model_write};
 use replay_cases::{
-    MARK_BYTE, MARK_WORD, Seen, column, joined, room, size, touched_bytes, touched_words,
+    MARK_BYTE, MARK_WORD, Seen, byte, column, joined, room, size, touched_bytes, touched_words,
+    within,
 };
-
-// How many bytes are kept of the file.
-fn kept(case: &[u64]) -> usize
-    ensures { result ≤ 76 }
-{
-    let k = size(case, 0);
-    if k <= 76 { k } else { 76 }
-}
 
 // The length kept of the file, and the lengths of c, s and of the head.
 fn read(case: &[u64], bytes: &[u8], x: &mut [u64], y: &mut [u64], z: &mut [u64]) -> u64
     requires { (76 ≤ length bytes.now) × (64 ≤ length x.old) × (64 ≤ length y.old) × (64 ≤ length z.old) }
 {
-    let k = kept(case);
+    let k = within(case, 0, 76);
     let a = room(case, 2);
     let b = room(case, 3);
     let h = room(case, 4);
@@ -39,11 +32,11 @@ fn file(case: &[u64]) -> [u8; 76] {
 // The same with a tide.
 fn damaged(case: &[u64]) -> [u8; 76] {
     let mut bytes = file(case);
-    bytes[17] = (column(case, 1) % 256) as u8;
+    bytes[17] = byte(case, 1);
     bytes
 }
 
-pub fn show_read(case: &[u64]) -> Seen {
+pub fn see_read(case: &[u64]) -> Seen {
     let bytes = damaged(case);
     let mut x = [MARK_WORD; 64];
     let mut y = [MARK_WORD; 64];
@@ -78,7 +71,7 @@ fn write(case: &[u64], list: &[u64], out: &mut [u8]) -> u64
     ) as u64
 }
 
-pub fn show_write(case: &[u64]) -> Seen {
+pub fn see_write(case: &[u64]) -> Seen {
     let list = [3u64; 64];
     let mut out = [MARK_BYTE; 64];
     let number = write(case, &list, &mut out);

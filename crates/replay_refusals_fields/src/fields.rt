@@ -3,18 +3,7 @@
 ghost use Rattle.std.specs.Prelude.{◌≤◌, length};
 
 use analysis::analysis;
-use coefficients::{Date, Head, TideSystem};
-use replay_cases::{functional, room, size};
-
-fn head_of(nmax: usize) -> Head {
-    Head {
-        gm: 3.5,
-        radius: 7.25,
-        tide_system: TideSystem::ZeroTide,
-        date: Date::None,
-        nmax,
-    }
-}
+use replay_cases::{functional, head_of, of_result, room, size};
 
 // N, rows, longitudes, the functional, and the lengths of c, s, of the Love numbers, latitudes, cosines and sines, of the working list and the output.
 pub fn grid(case: &[u64], list: &[f64], w: &mut [f64], x: &mut [f64]) -> u64
@@ -31,7 +20,7 @@ pub fn grid(case: &[u64], list: &[f64], w: &mut [f64], x: &mut [f64]) -> u64
     let g = room(case, 8);
     let k = room(case, 9);
     let o = room(case, 10);
-    replay_cases::of_answer(synthesis::grid(
+    of_result(synthesis::grid(
         head,
         &list[..a],
         &list[..b],
@@ -59,7 +48,7 @@ pub fn basin_average(case: &[u64], list: &[f64]) -> u64
     let c = room(case, 5);
     let d = room(case, 6);
     let l = room(case, 7);
-    replay_cases::of_number(slepian::basin_average(
+    of_result(slepian::basin_average(
         field,
         &list[..a],
         &list[..b],
@@ -86,7 +75,7 @@ pub fn model(case: &[u64], list: &[f64], w: &mut [f64], x: &mut [f64], y: &mut [
     let k = room(case, 7);
     let a = room(case, 8);
     let b = room(case, 9);
-    replay_cases::of_model(analysis(
+    of_result(analysis(
         f,
         &list[..l],
         8.0,

@@ -6,47 +6,34 @@ mod cases;
 mod fields;
 mod matrices;
 
-ghost use Rattle.std.specs.Prelude.{◌*◌, ◌≤◌, length};
+ghost use Rattle.std.specs.Prelude.{◌≤◌, length};
 
 use functional::Functional;
 use replay_cases::{MARK, Seen, joined, size, touched};
-use std::io::{Result, Stdout};
+use std::io;
+use std::io::Stdout;
 
-// One case of a call.
-fn answer(
-    which: usize,
-    case: &[u64],
-    list: &[f64],
-    w: &mut [f64],
-    x: &mut [f64],
-    y: &mut [f64],
-    z: &mut [f64],
-    told: &mut [f64],
-) -> u64
-    requires { (64 ≤ length list.now) × (64 ≤ length w.old) × (64 ≤ length x.old) × (64 ≤ length y.old) × (64 ≤ length z.old)
-        × (64 ≤ length told.old) }
+// What is seen of a case of a call, on a list to be read and five that hold the mark; the last column says how much of the first of these is left free.
+fn see<F>(case: &[u64], call: &F) -> Seen
+where
+    F: Fn(
+        &[u64],
+        &[f64; 64],
+        &mut [f64; 64],
+        &mut [f64; 64],
+        &mut [f64; 64],
+        &mut [f64; 64],
+        &mut [f64; 64],
+    ) -> u64,
+    requires { F.IsAlwaysCallable call.now }
 {
-    match which {
-        0 => fields::grid(case, list, w, x),
-        1 => fields::basin_average(case, list),
-        2 => fields::model(case, list, w, x, y),
-        3 => matrices::symmetric_eigen(case, list, w, x, y),
-        4 => matrices::householder_ql(case, list, w, x, y),
-        _ => matrices::cap(case, list, w, x, y, z, told),
-    }
-}
-
-// What is seen of it, on lists that hold the mark where they are written; the last column says how much of the working list is left free.
-fn show(which: usize, case: &[u64]) -> Seen {
     let list = [0.5; 64];
     let mut w = [MARK; 64];
     let mut x = [MARK; 64];
     let mut y = [MARK; 64];
     let mut z = [MARK; 64];
     let mut told = [MARK; 64];
-    let number = answer(
-        which, case, &list, &mut w, &mut x, &mut y, &mut z, &mut told,
-    );
+    let number = call(case, &list, &mut w, &mut x, &mut y, &mut z, &mut told);
     let others = touched(&w, size(case, 11)) + touched(&told, 0);
     Seen {
         number,
@@ -54,27 +41,22 @@ fn show(which: usize, case: &[u64]) -> Seen {
     }
 }
 
-// All cases of a call, twelve columns each: two words of each to the front of `out`.
-fn run(which: usize, cases: &[u64], out: &mut [u64])
-    requires { length cases.now ≤ 6 * length out.old }
+// All cases of a call, twelve columns each.
+fn print<F>(stdout: Stdout, name: &[u8], call: F, cases: &[u64], due: &[u64]) -> io::Result<()>
+where
+    F: Fn(
+        &[u64],
+        &[f64; 64],
+        &mut [f64; 64],
+        &mut [f64; 64],
+        &mut [f64; 64],
+        &mut [f64; 64],
+        &mut [f64; 64],
+    ) -> u64,
+    requires call { F.IsAlwaysCallable call }
+    requires lengths { (length name.now ≤ 80) × ((length cases.now ≤ 1200) × (length due.now ≤ 200)) }
 {
-    let mut i = 0;
-    while i < cases.len() / 12 {
-        let at = 12 * i;
-        let end = at + 12;
-        let seen = show(which, &cases[at..end]);
-        out[2 * i] = seen.number;
-        out[2 * i + 1] = seen.touched;
-        i += 1;
-    }
-}
-
-fn print(stdout: Stdout, name: &[u8], which: usize, cases: &[u64], due: &[u64]) -> Result<()>
-    requires { (length name.now ≤ 80) × ((length cases.now ≤ 720) × (length due.now ≤ 120)) }
-{
-    let mut out = [0u64; 120];
-    run(which, cases, &mut out);
-    replay_cases::print_line(stdout, name, &out, due)
+    replay_cases::print_cases(stdout, name, 12, |case| see(case, &call), cases, due)
 }
 
 // The head of an analysed model.
@@ -106,7 +88,7 @@ fn head_of(
     ))
 }
 
-fn print_heads(stdout: Stdout) -> Result<()> {
+fn print_heads(stdout: Stdout) -> io::Result<()> {
     let one = [0.5; 1];
     let two = [0.5; 2];
     let four = [0.5; 4];
@@ -128,42 +110,48 @@ fn print_heads(stdout: Stdout) -> Result<()> {
     )
 }
 
-fn main(rt: HostRuntime) -> Result<()> {
+fn main(rt: HostRuntime) -> io::Result<()> {
     let stdout = rt.stdout();
     replay_cases::control(stdout)?;
-    print(stdout, b"grid ", 0, &cases::GRID, &cases::GRID_DUE)?;
+    print(
+        stdout,
+        b"grid ",
+        |case, list, w, x, _, _, _| fields::grid(case, list, w, x),
+        &cases::GRID,
+        &cases::GRID_DUE,
+    )?;
     print(
         stdout,
         b"basin_average ",
-        1,
+        |case, list, _, _, _, _, _| fields::basin_average(case, list),
         &cases::BASIN_AVERAGE,
         &cases::BASIN_AVERAGE_DUE,
     )?;
     print(
         stdout,
         b"analysis ",
-        2,
+        |case, list, w, x, y, _, _| fields::model(case, list, w, x, y),
         &cases::ANALYSIS,
         &cases::ANALYSIS_DUE,
     )?;
     print(
         stdout,
         b"symmetric_eigen ",
-        3,
+        |case, list, w, x, y, _, _| matrices::eigen(linalg::symmetric_eigen, case, list, w, x, y),
         &cases::SYMMETRIC_EIGEN,
         &cases::SYMMETRIC_EIGEN_DUE,
     )?;
     print(
         stdout,
         b"householder_ql ",
-        4,
+        |case, list, w, x, y, _, _| matrices::eigen(linalg::householder_ql, case, list, w, x, y),
         &cases::HOUSEHOLDER_QL,
         &cases::HOUSEHOLDER_QL_DUE,
     )?;
     print(
         stdout,
         b"polar_cap ",
-        5,
+        |case, list, w, x, y, z, told| matrices::cap(case, list, w, x, y, z, told),
         &cases::POLAR_CAP,
         &cases::POLAR_CAP_DUE,
     )?;

@@ -5,29 +5,23 @@
 mod cases;
 mod points;
 
-ghost use Rattle.std.specs.Prelude.{◌*◌, ◌≤◌, length};
+ghost use Rattle.std.specs.Prelude.{◌≤◌, length};
 
 use replay_cases::{MARK, Seen, joined, size, touched};
-use std::io::{Result, Stdout};
+use std::io;
+use std::io::Stdout;
 
-// One case of a call.
-fn answer(which: usize, case: &[u64], list: &[f64], w: &mut [f64], x: &mut [f64]) -> u64
-    requires { (64 ≤ length list.now) × (64 ≤ length w.old) × (64 ≤ length x.old) }
+// What is seen of a case of a call, on a list to be read and two that hold the mark; the last column says how much of the first of these is left free.
+fn see<F: Fn(&[u64], &[f64; 64], &mut [f64; 64], &mut [f64; 64]) -> u64>(
+    case: &[u64],
+    call: &F,
+) -> Seen
+    requires { F.IsAlwaysCallable call.now }
 {
-    match which {
-        0 => points::point(false, case, list, w),
-        1 => points::along(false, case, list, w, x),
-        2 => points::point(true, case, list, w),
-        _ => points::along(true, case, list, w, x),
-    }
-}
-
-// What is seen of it, on lists that hold the mark where they are written; the last column says how much of the working list is left free.
-fn show(which: usize, case: &[u64]) -> Seen {
     let list = [0.5; 64];
     let mut w = [MARK; 64];
     let mut x = [MARK; 64];
-    let number = answer(which, case, &list, &mut w, &mut x);
+    let number = call(case, &list, &mut w, &mut x);
     let behind = touched(&w, size(case, 11));
     Seen {
         number,
@@ -35,57 +29,48 @@ fn show(which: usize, case: &[u64]) -> Seen {
     }
 }
 
-// All cases of a call, twelve columns each: two words of each to the front of `out`.
-fn run(which: usize, cases: &[u64], out: &mut [u64])
-    requires { length cases.now ≤ 6 * length out.old }
+// All cases of a call, twelve columns each.
+fn print<F: Fn(&[u64], &[f64; 64], &mut [f64; 64], &mut [f64; 64]) -> u64>(
+    stdout: Stdout,
+    name: &[u8],
+    call: F,
+    cases: &[u64],
+    due: &[u64],
+) -> io::Result<()>
+    requires call { F.IsAlwaysCallable call }
+    requires lengths { (length name.now ≤ 80) × ((length cases.now ≤ 1200) × (length due.now ≤ 200)) }
 {
-    let mut i = 0;
-    while i < cases.len() / 12 {
-        let at = 12 * i;
-        let end = at + 12;
-        let seen = show(which, &cases[at..end]);
-        out[2 * i] = seen.number;
-        out[2 * i + 1] = seen.touched;
-        i += 1;
-    }
+    replay_cases::print_cases(stdout, name, 12, |case| see(case, &call), cases, due)
 }
 
-fn print(stdout: Stdout, name: &[u8], which: usize, cases: &[u64], due: &[u64]) -> Result<()>
-    requires { (length name.now ≤ 80) × ((length cases.now ≤ 720) × (length due.now ≤ 120)) }
-{
-    let mut out = [0u64; 120];
-    run(which, cases, &mut out);
-    replay_cases::print_line(stdout, name, &out, due)
-}
-
-fn main(rt: HostRuntime) -> Result<()> {
+fn main(rt: HostRuntime) -> io::Result<()> {
     let stdout = rt.stdout();
     replay_cases::control(stdout)?;
     print(
         stdout,
         b"partials ",
-        0,
+        |case, list, w, _| points::point(partials::partials, case, list, w),
         &cases::PARTIALS,
         &cases::PARTIALS_DUE,
     )?;
     print(
         stdout,
         b"partials_along ",
-        1,
+        |case, list, w, x| points::along(partials::partials_along, case, list, w, x),
         &cases::PARTIALS_ALONG,
         &cases::PARTIALS_ALONG_DUE,
     )?;
     print(
         stdout,
         b"second_partials ",
-        2,
+        |case, list, w, _| points::point(second_partials::second_partials, case, list, w),
         &cases::SECOND_PARTIALS,
         &cases::SECOND_PARTIALS_DUE,
     )?;
     print(
         stdout,
         b"second_partials_along ",
-        3,
+        |case, list, w, x| points::along(second_partials::second_partials_along, case, list, w, x),
         &cases::SECOND_PARTIALS_ALONG,
         &cases::SECOND_PARTIALS_ALONG_DUE,
     )

@@ -6,9 +6,9 @@ mod cases;
 mod refusals;
 mod told;
 
-use std::io::Result;
+use std::io;
 
-fn main(rt: HostRuntime) -> Result<()> {
+fn main(rt: HostRuntime) -> io::Result<()> {
     let stdout = rt.stdout();
     replay_cases::control(stdout)?;
     refusals::show_refusals(stdout)?;

@@ -1,10 +1,11 @@
 // Replays what the entries for C refuse, case by case (cases.rt): the number, and how many places of the lists are changed.
-ghost use Rattle.std.specs.Prelude.{◌*◌, ◌≤◌, length};
+ghost use Rattle.std.specs.Prelude.{◌≤◌, length};
 
 use crate::cases;
 use geopotential::free_regions::{geopotential_concentration_matrix, geopotential_region};
-use replay_cases::{MARK, Seen, joined, room, size, touched};
-use std::io::{Result, Stdout};
+use replay_cases::{MARK, Seen, joined, print_cases, room, size, touched};
+use std::io;
+use std::io::Stdout;
 
 // L, the nodes, and the lengths of the weights, latitudes, marks, s, c, of the working list and of the matrix.
 fn concentration_matrix(
@@ -104,8 +105,22 @@ fn told(settled: u32, count: usize) -> u64
     0
 }
 
-// What is seen of a case, on lists that hold the mark where they are written; the last column says how much of the working list is left free.
-fn see(functions: bool, case: &[u64]) -> Seen {
+// What is seen of a case of an entry, on lists that hold the mark where they are written; the last column says how much of the working list is left free.
+fn see<F>(case: &[u64], call: &F) -> Seen
+where
+    F: Fn(
+        &[u64],
+        &[f64; 64],
+        &[u8; 64],
+        &mut [f64; 64],
+        &mut [f64; 64],
+        &mut [f64; 64],
+        &mut [f64; 64],
+        &mut u32,
+        &mut usize,
+    ) -> u64,
+    requires { F.IsAlwaysCallable call.now }
+{
     let list = [0.5; 64];
     let marks = [1u8; 64];
     let mut w = [MARK; 64];
@@ -114,21 +129,17 @@ fn see(functions: bool, case: &[u64]) -> Seen {
     let mut z = [MARK; 64];
     let mut settled = UNSETTLED;
     let mut count = UNTOLD;
-    let number = if functions {
-        region(
-            case,
-            &list,
-            &marks,
-            &mut w,
-            &mut x,
-            &mut y,
-            &mut z,
-            &mut settled,
-            &mut count,
-        )
-    } else {
-        concentration_matrix(case, &list, &marks, &mut w, &mut x)
-    };
+    let number = call(
+        case,
+        &list,
+        &marks,
+        &mut w,
+        &mut x,
+        &mut y,
+        &mut z,
+        &mut settled,
+        &mut count,
+    );
     let others = touched(&w, size(case, 11)) + told(settled, count);
     Seen {
         number,
@@ -136,41 +147,30 @@ fn see(functions: bool, case: &[u64]) -> Seen {
     }
 }
 
-// All cases of an entry, twelve columns each: two words of each to the front of `out`.
-fn run(functions: bool, cases: &[u64], out: &mut [u64])
-    requires { length cases.now ≤ 6 * length out.old }
-{
-    let mut i = 0;
-    while i < cases.len() / 12 {
-        let at = 12 * i;
-        let end = at + 12;
-        let seen = see(functions, &cases[at..end]);
-        out[2 * i] = seen.number;
-        out[2 * i + 1] = seen.touched;
-        i += 1;
-    }
-}
-
-fn print(stdout: Stdout, name: &[u8], functions: bool, cases: &[u64], due: &[u64]) -> Result<()>
-    requires { (length name.now ≤ 80) × ((length cases.now ≤ 720) × (length due.now ≤ 120)) }
-{
-    let mut out = [0u64; 120];
-    run(functions, cases, &mut out);
-    replay_cases::print_line(stdout, name, &out, due)
-}
-
-pub fn show_refusals(stdout: Stdout) -> Result<()> {
-    print(
+pub fn show_refusals(stdout: Stdout) -> io::Result<()> {
+    print_cases(
         stdout,
         b"concentration_matrix, refusals ",
-        false,
+        12,
+        |case| see(
+            case,
+            &|case, list, marks, w, x, _, _, _, _| {
+                concentration_matrix(case, list, marks, w, x)
+            },
+        ),
         &cases::CONCENTRATION_MATRIX,
         &cases::CONCENTRATION_MATRIX_DUE,
     )?;
-    print(
+    print_cases(
         stdout,
         b"region, refusals ",
-        true,
+        12,
+        |case| see(
+            case,
+            &|case, list, marks, w, x, y, z, settled, count| {
+                region(case, list, marks, w, x, y, z, settled, count)
+            },
+        ),
         &cases::REGION,
         &cases::REGION_DUE,
     )

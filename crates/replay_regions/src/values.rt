@@ -3,17 +3,10 @@ ghost use Rattle.std.specs.Prelude.{◌≤◌, length};
 
 use crate::answers;
 use geopotential::free_regions::{geopotential_concentration_matrix, geopotential_region};
-use replay_print::{show, show_words};
-use std::io::{Result, Stdout};
-
-// The front of a list, as many numbers as there are due.
-fn show_front(stdout: Stdout, name: &[u8], list: &[f64], words: &[u64]) -> Result<()>
-    requires fact_1 { length words.now ≤ length list.now }
-    requires fact_2 { length name.now ≤ 80 }
-{
-    let k = words.len();
-    show(stdout, name, &list[..k], words, 0)
-}
+use replay::numbers;
+use replay_print::{show, show_front, show_words};
+use std::io;
+use std::io::Stdout;
 
 // A region's matrix, of degree 5 at most; the list for it has room for that degree.
 fn show_matrix(
@@ -25,7 +18,7 @@ fn show_matrix(
     s: &[f64],
     c: &[f64],
     due: &[u64],
-) -> Result<()>
+) -> io::Result<()>
     requires { length due.now ≤ 1296 }
 {
     let mut work = [0.0; 63];
@@ -58,7 +51,7 @@ fn show_ended(
     settled: u32,
     count: usize,
     due: &[u64; 2],
-) -> Result<()> {
+) -> io::Result<()> {
     show_words(stdout, b"region, refusal ", &[number as u64], &[0], 0)?;
     show_words(
         stdout,
@@ -78,7 +71,7 @@ fn show_lists(
     due: &[u64],
     cosines: &[u64],
     sines: &[u64],
-) -> Result<()>
+) -> io::Result<()>
     requires { (length due.now ≤ 36) × ((length cosines.now ≤ 756) × (length sines.now ≤ 756)) }
 {
     show_front(stdout, b"region, concentrations ", concentrations, due)?;
@@ -99,7 +92,7 @@ fn show_functions(
     cosines: &[u64],
     sines: &[u64],
     ended: &[u64; 2],
-) -> Result<()>
+) -> io::Result<()>
     requires { (length due.now ≤ 36) × ((length cosines.now ≤ 756) × (length sines.now ≤ 756)) }
 {
     let mut work = [0.0; 5427];
@@ -127,34 +120,55 @@ fn show_functions(
     show_lists(stdout, &concentrations, &cs, &ss, due, cosines, sines)
 }
 
-// A region of degree 0, of three nodes, one of them skipped.
-fn show_of_0(stdout: Stdout) -> Result<()> {
-    let mut weights = [0.0; 3];
-    let mut latitudes = [0.0; 6];
-    let mut s = [0.0; 3];
-    let mut c = [0.0; 3];
-    replay::load(&answers::OF_0_WEIGHTS, 0, &mut weights);
-    replay::load(&answers::OF_0_LATITUDES, 0, &mut latitudes);
-    replay::load(&answers::OF_0_S, 0, &mut s);
-    replay::load(&answers::OF_0_C, 0, &mut c);
-    show_matrix(
-        stdout,
-        0,
-        &weights,
-        &latitudes,
-        &answers::OF_0_MARKS,
-        &s,
-        &c,
-        &answers::OF_0_MATRIX,
-    )?;
+// The matrix and the functions of a region by the bit patterns of its lists.
+fn show_region<const NODES: usize, const PAIRS: usize, const INTEGRALS: usize>(
+    stdout: Stdout,
+    lmax: usize,
+    weights: &[u64; NODES],
+    latitudes: &[u64; PAIRS],
+    marks: &[u8; NODES],
+    s: &[u64; INTEGRALS],
+    c: &[u64; INTEGRALS],
+    matrix: &[u64],
+    concentrations: &[u64],
+    cosines: &[u64],
+    sines: &[u64],
+    ended: &[u64; 2],
+) -> io::Result<()>
+    requires matrix { length matrix.now ≤ 1296 }
+    requires functions { (length concentrations.now ≤ 36) × ((length cosines.now ≤ 756) × (length sines.now ≤ 756)) }
+{
+    let w = numbers(weights);
+    let t = numbers(latitudes);
+    let s = numbers(s);
+    let c = numbers(c);
+    show_matrix(stdout, lmax, &w, &t, marks, &s, &c, matrix)?;
     show_functions(
         stdout,
-        0,
-        &weights,
-        &latitudes,
-        &answers::OF_0_MARKS,
+        lmax,
+        &w,
+        &t,
+        marks,
         &s,
         &c,
+        concentrations,
+        cosines,
+        sines,
+        ended,
+    )
+}
+
+// A region of degree 0, of three nodes, one of them skipped.
+fn show_of_0(stdout: Stdout) -> io::Result<()> {
+    show_region(
+        stdout,
+        0,
+        &answers::OF_0_WEIGHTS,
+        &answers::OF_0_LATITUDES,
+        &answers::OF_0_MARKS,
+        &answers::OF_0_S,
+        &answers::OF_0_C,
+        &answers::OF_0_MATRIX,
         &answers::OF_0_CONCENTRATIONS,
         &answers::OF_0_COSINES,
         &answers::OF_0_SINES,
@@ -163,33 +177,16 @@ fn show_of_0(stdout: Stdout) -> Result<()> {
 }
 
 // Degree 1.
-fn show_of_1(stdout: Stdout) -> Result<()> {
-    let mut weights = [0.0; 3];
-    let mut latitudes = [0.0; 6];
-    let mut s = [0.0; 9];
-    let mut c = [0.0; 9];
-    replay::load(&answers::OF_1_WEIGHTS, 0, &mut weights);
-    replay::load(&answers::OF_1_LATITUDES, 0, &mut latitudes);
-    replay::load(&answers::OF_1_S, 0, &mut s);
-    replay::load(&answers::OF_1_C, 0, &mut c);
-    show_matrix(
+fn show_of_1(stdout: Stdout) -> io::Result<()> {
+    show_region(
         stdout,
         1,
-        &weights,
-        &latitudes,
+        &answers::OF_1_WEIGHTS,
+        &answers::OF_1_LATITUDES,
         &answers::OF_1_MARKS,
-        &s,
-        &c,
+        &answers::OF_1_S,
+        &answers::OF_1_C,
         &answers::OF_1_MATRIX,
-    )?;
-    show_functions(
-        stdout,
-        1,
-        &weights,
-        &latitudes,
-        &answers::OF_1_MARKS,
-        &s,
-        &c,
         &answers::OF_1_CONCENTRATIONS,
         &answers::OF_1_COSINES,
         &answers::OF_1_SINES,
@@ -198,33 +195,16 @@ fn show_of_1(stdout: Stdout) -> Result<()> {
 }
 
 // Degree 2.
-fn show_of_2(stdout: Stdout) -> Result<()> {
-    let mut weights = [0.0; 3];
-    let mut latitudes = [0.0; 6];
-    let mut s = [0.0; 15];
-    let mut c = [0.0; 15];
-    replay::load(&answers::OF_2_WEIGHTS, 0, &mut weights);
-    replay::load(&answers::OF_2_LATITUDES, 0, &mut latitudes);
-    replay::load(&answers::OF_2_S, 0, &mut s);
-    replay::load(&answers::OF_2_C, 0, &mut c);
-    show_matrix(
+fn show_of_2(stdout: Stdout) -> io::Result<()> {
+    show_region(
         stdout,
         2,
-        &weights,
-        &latitudes,
+        &answers::OF_2_WEIGHTS,
+        &answers::OF_2_LATITUDES,
         &answers::OF_2_MARKS,
-        &s,
-        &c,
+        &answers::OF_2_S,
+        &answers::OF_2_C,
         &answers::OF_2_MATRIX,
-    )?;
-    show_functions(
-        stdout,
-        2,
-        &weights,
-        &latitudes,
-        &answers::OF_2_MARKS,
-        &s,
-        &c,
         &answers::OF_2_CONCENTRATIONS,
         &answers::OF_2_COSINES,
         &answers::OF_2_SINES,
@@ -233,33 +213,16 @@ fn show_of_2(stdout: Stdout) -> Result<()> {
 }
 
 // Sums that overflow, products that vanish, zeros of either sign.
-fn show_strange(stdout: Stdout) -> Result<()> {
-    let mut weights = [0.0; 3];
-    let mut latitudes = [0.0; 6];
-    let mut s = [0.0; 9];
-    let mut c = [0.0; 9];
-    replay::load(&answers::STRANGE_WEIGHTS, 0, &mut weights);
-    replay::load(&answers::STRANGE_LATITUDES, 0, &mut latitudes);
-    replay::load(&answers::STRANGE_S, 0, &mut s);
-    replay::load(&answers::STRANGE_C, 0, &mut c);
-    show_matrix(
+fn show_strange(stdout: Stdout) -> io::Result<()> {
+    show_region(
         stdout,
         1,
-        &weights,
-        &latitudes,
+        &answers::STRANGE_WEIGHTS,
+        &answers::STRANGE_LATITUDES,
         &answers::STRANGE_MARKS,
-        &s,
-        &c,
+        &answers::STRANGE_S,
+        &answers::STRANGE_C,
         &answers::STRANGE_MATRIX,
-    )?;
-    show_functions(
-        stdout,
-        1,
-        &weights,
-        &latitudes,
-        &answers::STRANGE_MARKS,
-        &s,
-        &c,
         &answers::STRANGE_CONCENTRATIONS,
         &answers::STRANGE_COSINES,
         &answers::STRANGE_SINES,
@@ -268,33 +231,16 @@ fn show_strange(stdout: Stdout) -> Result<()> {
 }
 
 // Products that overflow unless the sum is halved before them.
-fn show_large(stdout: Stdout) -> Result<()> {
-    let mut weights = [0.0; 3];
-    let mut latitudes = [0.0; 6];
-    let mut s = [0.0; 9];
-    let mut c = [0.0; 9];
-    replay::load(&answers::LARGE_WEIGHTS, 0, &mut weights);
-    replay::load(&answers::LARGE_LATITUDES, 0, &mut latitudes);
-    replay::load(&answers::LARGE_S, 0, &mut s);
-    replay::load(&answers::LARGE_C, 0, &mut c);
-    show_matrix(
+fn show_large(stdout: Stdout) -> io::Result<()> {
+    show_region(
         stdout,
         1,
-        &weights,
-        &latitudes,
+        &answers::LARGE_WEIGHTS,
+        &answers::LARGE_LATITUDES,
         &answers::LARGE_MARKS,
-        &s,
-        &c,
+        &answers::LARGE_S,
+        &answers::LARGE_C,
         &answers::LARGE_MATRIX,
-    )?;
-    show_functions(
-        stdout,
-        1,
-        &weights,
-        &latitudes,
-        &answers::LARGE_MARKS,
-        &s,
-        &c,
         &answers::LARGE_CONCENTRATIONS,
         &answers::LARGE_COSINES,
         &answers::LARGE_SINES,
@@ -303,33 +249,16 @@ fn show_large(stdout: Stdout) -> Result<()> {
 }
 
 // An integral that is none, of one node.
-fn show_none(stdout: Stdout) -> Result<()> {
-    let mut weights = [0.0; 1];
-    let mut latitudes = [0.0; 2];
-    let mut s = [0.0; 3];
-    let mut c = [0.0; 3];
-    replay::load(&answers::NONE_WEIGHTS, 0, &mut weights);
-    replay::load(&answers::NONE_LATITUDES, 0, &mut latitudes);
-    replay::load(&answers::NONE_S, 0, &mut s);
-    replay::load(&answers::NONE_C, 0, &mut c);
-    show_matrix(
+fn show_none(stdout: Stdout) -> io::Result<()> {
+    show_region(
         stdout,
         1,
-        &weights,
-        &latitudes,
+        &answers::NONE_WEIGHTS,
+        &answers::NONE_LATITUDES,
         &answers::NONE_MARKS,
-        &s,
-        &c,
+        &answers::NONE_S,
+        &answers::NONE_C,
         &answers::NONE_MATRIX,
-    )?;
-    show_functions(
-        stdout,
-        1,
-        &weights,
-        &latitudes,
-        &answers::NONE_MARKS,
-        &s,
-        &c,
         &answers::NONE_CONCENTRATIONS,
         &answers::NONE_COSINES,
         &answers::NONE_SINES,
@@ -338,33 +267,16 @@ fn show_none(stdout: Stdout) -> Result<()> {
 }
 
 // Degree 5, of two nodes: the front of the answer.
-fn show_of_5(stdout: Stdout) -> Result<()> {
-    let mut weights = [0.0; 2];
-    let mut latitudes = [0.0; 4];
-    let mut s = [0.0; 22];
-    let mut c = [0.0; 22];
-    replay::load(&answers::OF_5_WEIGHTS, 0, &mut weights);
-    replay::load(&answers::OF_5_LATITUDES, 0, &mut latitudes);
-    replay::load(&answers::OF_5_S, 0, &mut s);
-    replay::load(&answers::OF_5_C, 0, &mut c);
-    show_matrix(
+fn show_of_5(stdout: Stdout) -> io::Result<()> {
+    show_region(
         stdout,
         5,
-        &weights,
-        &latitudes,
+        &answers::OF_5_WEIGHTS,
+        &answers::OF_5_LATITUDES,
         &answers::OF_5_MARKS,
-        &s,
-        &c,
+        &answers::OF_5_S,
+        &answers::OF_5_C,
         &answers::OF_5_MATRIX,
-    )?;
-    show_functions(
-        stdout,
-        5,
-        &weights,
-        &latitudes,
-        &answers::OF_5_MARKS,
-        &s,
-        &c,
         &answers::OF_5_CONCENTRATIONS,
         &answers::OF_5_COSINES,
         &answers::OF_5_SINES,
@@ -373,33 +285,16 @@ fn show_of_5(stdout: Stdout) -> Result<()> {
 }
 
 // Degree 5, of one node of a subnormal weight: the iteration does not settle.
-fn show_faint(stdout: Stdout) -> Result<()> {
-    let mut weights = [0.0; 1];
-    let mut latitudes = [0.0; 2];
-    let mut s = [0.0; 11];
-    let mut c = [0.0; 11];
-    replay::load(&answers::FAINT_WEIGHTS, 0, &mut weights);
-    replay::load(&answers::FAINT_LATITUDES, 0, &mut latitudes);
-    replay::load(&answers::FAINT_S, 0, &mut s);
-    replay::load(&answers::FAINT_C, 0, &mut c);
-    show_matrix(
+fn show_faint(stdout: Stdout) -> io::Result<()> {
+    show_region(
         stdout,
         5,
-        &weights,
-        &latitudes,
+        &answers::FAINT_WEIGHTS,
+        &answers::FAINT_LATITUDES,
         &answers::FAINT_MARKS,
-        &s,
-        &c,
+        &answers::FAINT_S,
+        &answers::FAINT_C,
         &answers::FAINT_MATRIX,
-    )?;
-    show_functions(
-        stdout,
-        5,
-        &weights,
-        &latitudes,
-        &answers::FAINT_MARKS,
-        &s,
-        &c,
         &answers::FAINT_CONCENTRATIONS,
         &answers::FAINT_COSINES,
         &answers::FAINT_SINES,
@@ -414,14 +309,10 @@ fn refusal_of_1(
     cs: &mut [f64],
     ss: &mut [f64],
 ) -> u64 {
-    let mut weights = [0.0; 3];
-    let mut latitudes = [0.0; 6];
-    let mut s = [0.0; 9];
-    let mut c = [0.0; 9];
-    replay::load(&answers::OF_1_WEIGHTS, 0, &mut weights);
-    replay::load(&answers::OF_1_LATITUDES, 0, &mut latitudes);
-    replay::load(&answers::OF_1_S, 0, &mut s);
-    replay::load(&answers::OF_1_C, 0, &mut c);
+    let weights = numbers(&answers::OF_1_WEIGHTS);
+    let latitudes = numbers(&answers::OF_1_LATITUDES);
+    let s = numbers(&answers::OF_1_S);
+    let c = numbers(&answers::OF_1_C);
     let mut settled = 7;
     let mut count = 7;
     let number = geopotential_region(
@@ -443,7 +334,7 @@ fn refusal_of_1(
 }
 
 // One number too few in each of them, and then just enough.
-fn show_short(stdout: Stdout) -> Result<()> {
+fn show_short(stdout: Stdout) -> io::Result<()> {
     let mut work = [0.0; 93];
     let mut concentrations = [0.0; 4];
     let mut cs = [0.0; 12];
@@ -468,7 +359,7 @@ fn show_short(stdout: Stdout) -> Result<()> {
     show_words(stdout, b"region, just enough ", &[enough], &[0], 0)
 }
 
-pub fn show_values(stdout: Stdout) -> Result<()> {
+pub fn show_values(stdout: Stdout) -> io::Result<()> {
     show_of_0(stdout)?;
     show_of_1(stdout)?;
     show_of_2(stdout)?;

@@ -5,23 +5,36 @@ use crate::answers;
 use geopotential::lists::geopotential_polar_cap_lengths;
 use geopotential::matrices::{geopotential_householder_ql, geopotential_symmetric_eigen};
 use geopotential::polar_caps::geopotential_polar_cap;
-use replay_cases::MARK;
+use replay_cases::{MARK, MARK_LENGTH, print_lengths};
 use replay_print::{show, show_words};
-use std::io::{Result, Stdout};
+use std::io;
+use std::io::Stdout;
 
-// What stands before a call in the numbers and in the list of lengths that are lent.
+// What stands before a call in a number that is lent.
 const MARK_NUMBER: u32 = 1234;
 
-const MARK_LENGTH: usize = 1234;
-
-// A matrix of up to three rows, with places behind its values and its vectors.
-fn show_rotations(stdout: Stdout, n: usize, a: &[f64], due: &[u64; 17]) -> Result<()> {
+// A matrix of up to three rows by either solver, with places behind its values and its vectors.
+fn show_solved<F>(
+    stdout: Stdout,
+    solver: F,
+    ended_name: &[u8],
+    values_name: &[u8],
+    vectors_name: &[u8],
+    n: usize,
+    a: &[f64],
+    due: &[u64; 17],
+) -> io::Result<()>
+where
+    F: FnOnce(usize, &[f64], &mut [f64], &mut [f64], &mut [f64], &mut u32, &mut usize) -> u32,
+    requires solver { F.IsAlwaysCallable solver }
+    requires names { (length ended_name.now ≤ 80) × ((length values_name.now ≤ 80) × (length vectors_name.now ≤ 80)) }
+{
     let mut work = [MARK; 21];
     let mut values = [MARK; 4];
     let mut vectors = [MARK; 10];
     let mut settled = MARK_NUMBER;
     let mut count = MARK_LENGTH;
-    let number = geopotential_symmetric_eigen(
+    let number = solver(
         n,
         a,
         &mut work,
@@ -32,43 +45,43 @@ fn show_rotations(stdout: Stdout, n: usize, a: &[f64], due: &[u64; 17]) -> Resul
     );
     show_words(
         stdout,
-        b"symmetric_eigen, refusal, settled, count ",
+        ended_name,
         &[number as u64, settled as u64, count as u64],
         due,
         0,
     )?;
-    show(stdout, b"symmetric_eigen, values ", &values, due, 3)?;
-    show(stdout, b"symmetric_eigen, vectors ", &vectors, due, 7)
+    show(stdout, values_name, &values, due, 3)?;
+    show(stdout, vectors_name, &vectors, due, 7)
 }
 
-fn show_reflections(stdout: Stdout, n: usize, a: &[f64], due: &[u64; 17]) -> Result<()> {
-    let mut work = [MARK; 21];
-    let mut values = [MARK; 4];
-    let mut vectors = [MARK; 10];
-    let mut settled = MARK_NUMBER;
-    let mut count = MARK_LENGTH;
-    let number = geopotential_householder_ql(
+fn show_rotations(stdout: Stdout, n: usize, a: &[f64], due: &[u64; 17]) -> io::Result<()> {
+    show_solved(
+        stdout,
+        geopotential_symmetric_eigen,
+        b"symmetric_eigen, refusal, settled, count ",
+        b"symmetric_eigen, values ",
+        b"symmetric_eigen, vectors ",
         n,
         a,
-        &mut work,
-        &mut values,
-        &mut vectors,
-        &mut settled,
-        &mut count,
-    );
-    show_words(
-        stdout,
-        b"householder_ql, refusal, settled, count ",
-        &[number as u64, settled as u64, count as u64],
         due,
-        0,
-    )?;
-    show(stdout, b"householder_ql, values ", &values, due, 3)?;
-    show(stdout, b"householder_ql, vectors ", &vectors, due, 7)
+    )
+}
+
+fn show_reflections(stdout: Stdout, n: usize, a: &[f64], due: &[u64; 17]) -> io::Result<()> {
+    show_solved(
+        stdout,
+        geopotential_householder_ql,
+        b"householder_ql, refusal, settled, count ",
+        b"householder_ql, values ",
+        b"householder_ql, vectors ",
+        n,
+        a,
+        due,
+    )
 }
 
 // A matrix whose squares overflow, one that the rotations don't settle, an ordinary one, one that the iteration does not settle, and a number too few.
-fn show_all_rotations(stdout: Stdout, tiny: &[f64; 9]) -> Result<()> {
+fn show_all_rotations(stdout: Stdout, tiny: &[f64; 9]) -> io::Result<()> {
     show_rotations(
         stdout,
         2,
@@ -96,7 +109,7 @@ fn show_all_rotations(stdout: Stdout, tiny: &[f64; 9]) -> Result<()> {
     )
 }
 
-fn show_all_reflections(stdout: Stdout, tiny: &[f64; 9]) -> Result<()> {
+fn show_all_reflections(stdout: Stdout, tiny: &[f64; 9]) -> io::Result<()> {
     show_reflections(
         stdout,
         2,
@@ -124,7 +137,7 @@ fn show_all_reflections(stdout: Stdout, tiny: &[f64; 9]) -> Result<()> {
     )
 }
 
-fn show_solvers(stdout: Stdout) -> Result<()> {
+fn show_solvers(stdout: Stdout) -> io::Result<()> {
     let mut tiny = [0.0; 9];
     replay::load(&answers::TINY, 0, &mut tiny);
     show_all_rotations(stdout, &tiny)?;
@@ -138,7 +151,7 @@ fn show_ranked(
     concentrations: &[f64; 4],
     vectors: &[f64; 6],
     due: &[u64],
-) -> Result<()>
+) -> io::Result<()>
     requires { 15 ≤ length due.now }
 {
     show(stdout, b"polar_cap, orders ", orders, due, 1)?;
@@ -153,7 +166,7 @@ fn show_ranked(
 }
 
 // A cap of degree 1, with one place behind each output but the last, which is lent.
-fn show_cap(stdout: Stdout, cosine: f64, settled: &mut [f64], due: &[u64]) -> Result<()>
+fn show_cap(stdout: Stdout, cosine: f64, settled: &mut [f64], due: &[u64]) -> io::Result<()>
     requires { 15 + length settled.old ≤ length due.now }
 {
     let weights = [1.0, 0.5];
@@ -179,7 +192,7 @@ fn show_cap(stdout: Stdout, cosine: f64, settled: &mut [f64], due: &[u64]) -> Re
 }
 
 // One that settles, one whose order 0 does not (its cosine is infinite), and one with a place too few.
-fn show_caps(stdout: Stdout) -> Result<()> {
+fn show_caps(stdout: Stdout) -> io::Result<()> {
     let mut settled = [MARK; 5];
     show_cap(stdout, 0.25, &mut settled, &answers::CAP)?;
     let mut partly = [MARK; 5];
@@ -196,7 +209,7 @@ fn show_long_cap(
     weights: &[f64],
     latitudes: &[f64],
     due: &[u64; 66],
-) -> Result<()> {
+) -> io::Result<()> {
     let mut work = [MARK; 19855];
     let mut orders = [MARK; 561];
     let mut concentrations = [MARK; 561];
@@ -217,7 +230,7 @@ fn show_long_cap(
     show(stdout, b"polar_cap, settled and counts ", &settled, due, 0)
 }
 
-fn show_long_caps(stdout: Stdout) -> Result<()> {
+fn show_long_caps(stdout: Stdout) -> io::Result<()> {
     show_long_cap(
         stdout,
         16,
@@ -229,58 +242,27 @@ fn show_long_caps(stdout: Stdout) -> Result<()> {
     show_long_cap(stdout, 32, 0.5, &[0.5; 33], &[0.5; 66], &answers::CAP_32)
 }
 
-// What is told of its lists, with a place behind the lengths.
-fn show_lengths(stdout: Stdout, name: &[u8], lmax: usize, due: &[u64; 9]) -> Result<()>
-    requires { length name.now ≤ 80 }
-{
-    let mut l = [MARK_LENGTH; 8];
-    let number = geopotential_polar_cap_lengths(lmax, &mut l);
-    let told = [
-        number as u64,
-        l[0] as u64,
-        l[1] as u64,
-        l[2] as u64,
-        l[3] as u64,
-        l[4] as u64,
-        l[5] as u64,
-        l[6] as u64,
-        l[7] as u64,
-    ];
-    show_words(stdout, name, &told, due, 0)
-}
-
-// With one too few.
-fn show_lengths_short(stdout: Stdout) -> Result<()> {
-    let mut l = [MARK_LENGTH; 6];
-    let number = geopotential_polar_cap_lengths(2, &mut l);
-    let told = [
-        number as u64,
-        l[0] as u64,
-        l[1] as u64,
-        l[2] as u64,
-        l[3] as u64,
-        l[4] as u64,
-        l[5] as u64,
-    ];
-    show_words(
-        stdout,
-        b"polar_cap_lengths, SPACE ",
-        &told,
-        &answers::CAP_LENGTHS_SHORT,
-        0,
-    )
-}
-
-pub fn show_ended(stdout: Stdout) -> Result<()> {
+// The lists of lengths have a place behind the lengths, or one too few.
+pub fn show_ended(stdout: Stdout) -> io::Result<()> {
     show_solvers(stdout)?;
     show_caps(stdout)?;
     show_long_caps(stdout)?;
-    show_lengths(stdout, b"polar_cap_lengths ", 2, &answers::CAP_LENGTHS)?;
-    show_lengths(
+    print_lengths(
+        stdout,
+        b"polar_cap_lengths ",
+        |l| geopotential_polar_cap_lengths(2, l),
+        &answers::CAP_LENGTHS,
+    )?;
+    print_lengths(
         stdout,
         b"polar_cap_lengths, 181 ",
-        181,
+        |l| geopotential_polar_cap_lengths(181, l),
         &answers::CAP_LENGTHS_BEYOND,
     )?;
-    show_lengths_short(stdout)
+    print_lengths(
+        stdout,
+        b"polar_cap_lengths, SPACE ",
+        |l| geopotential_polar_cap_lengths(2, l),
+        &answers::CAP_LENGTHS_SHORT,
+    )
 }

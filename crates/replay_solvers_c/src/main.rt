@@ -5,9 +5,9 @@
 mod answers;
 mod entries;
 
-use std::io::Result;
+use std::io;
 
-fn main(rt: HostRuntime) -> Result<()> {
+fn main(rt: HostRuntime) -> io::Result<()> {
     let stdout = rt.stdout();
     replay_cases::control(stdout)?;
     entries::show_ended(stdout)

@@ -6,34 +6,14 @@ mod answers;
 
 ghost use Rattle.std.specs.Prelude.{◌+◌, ◌*◌, ◌≤◌, ◌<◌, length};
 
-use coefficients::{Date, Head, TideSystem};
 use legendre::Latitude;
-use local::{Partials, SecondPartials, SecondPoint};
+use local::{Partials, SecondPartials};
 use number::number_of_bits;
-use refusal::Answer;
+use refusal::Refusal;
+use replay_cases::{earth, latitude_of};
 use replay_print::show;
-use std::io::{Result, Stdout};
-
-fn head_of(nmax: usize) -> Head {
-    Head {
-        gm: 398600441500000.0,
-        radius: 6378136.3,
-        tide_system: TideSystem::Unknown,
-        date: Date::None,
-        nmax,
-    }
-}
-
-fn latitude_of(i: usize) -> Latitude
-    requires { i < 6 }
-{
-    let mut pair = [0.0; 2];
-    replay::load(&answers::LATITUDES, 2 * i, &mut pair);
-    Latitude {
-        t: pair[0],
-        u: pair[1],
-    }
-}
+use std::io;
+use std::io::Stdout;
 
 fn ten(at: SecondPartials) -> [f64; 10] {
     [
@@ -72,26 +52,24 @@ fn second_at(
     pairs: usize,
     cbits: &[u64; 15],
     sbits: &[u64; 15],
-) -> SecondPoint
+) -> Result<SecondPartials, Refusal>
     requires fact_1 { i < 6 }
     requires fact_2 { nmax ≤ 4 }
     requires fact_3 { pairs ≤ 15 }
 {
     let mut trig = [0.0; 10];
-    let mut c = [0.0; 15];
-    let mut s = [0.0; 15];
     replay::load(&answers::TRIG, 10 * i, &mut trig);
-    replay::load(cbits, 0, &mut c);
-    replay::load(sbits, 0, &mut s);
+    let c = replay::numbers(cbits);
+    let s = replay::numbers(sbits);
     let r = number_of_bits(answers::RADII[i]);
     let orders = nmax + nmax + 2;
     let mut work = [0.0; 75];
     second_partials::second_partials(
-        head_of(nmax),
+        earth(nmax),
         &c[..pairs],
         &s[..pairs],
         r,
-        latitude_of(i),
+        latitude_of(&answers::LATITUDES, i),
         &trig[..orders],
         &mut work,
     )
@@ -105,12 +83,12 @@ fn show_both(
     k: usize,
     numbers: &[u64],
     tensors: &[u64],
-) -> Result<()>
+) -> io::Result<()>
     requires { (i < 6) × ((10 * k + 10 ≤ length numbers.now) × ((9 * k + 9 ≤ length tensors.now) × (k < 6))) }
 {
     show(stdout, b"second_partials ", &ten(at), numbers, 10 * k)?;
     let r = number_of_bits(answers::RADII[i]);
-    let tensor = at.tensor_neu(r, latitude_of(i));
+    let tensor = at.tensor_neu(r, latitude_of(&answers::LATITUDES, i));
     show(stdout, b"tensor_neu ", &nine(tensor), tensors, 9 * k)
 }
 
@@ -123,12 +101,12 @@ fn show_point(
     sbits: &[u64; 15],
     numbers: &[u64; 60],
     tensors: &[u64; 54],
-) -> Result<()>
+) -> io::Result<()>
     requires { (i < 6) × ((nmax ≤ 4) × (pairs ≤ 15)) }
 {
     match second_at(i, nmax, pairs, cbits, sbits) {
-        SecondPoint::At(at) => show_both(stdout, i, at, i, numbers, tensors)?,
-        SecondPoint::Refused(_) => {
+        Ok(at) => show_both(stdout, i, at, i, numbers, tensors)?,
+        Err(_) => {
             replay_print::print(stdout, b"second_partials refused\n")?;
         }
     }
@@ -144,7 +122,7 @@ fn show_points(
     sbits: &[u64; 15],
     numbers: &[u64; 60],
     tensors: &[u64; 54],
-) -> Result<()>
+) -> io::Result<()>
     requires { (nmax ≤ 4) × (pairs ≤ 15) }
 {
     show_point(stdout, 0, nmax, pairs, cbits, sbits, numbers, tensors)?;
@@ -161,21 +139,16 @@ fn show_along(
     cbits: &[u64; 15],
     sbits: &[u64; 15],
     numbers: &[u64; 60],
-) -> Result<()> {
-    let mut c = [0.0; 15];
-    let mut s = [0.0; 15];
-    let mut radii = [0.0; 6];
-    let mut latitudes = [0.0; 12];
-    let mut trig = [0.0; 60];
-    replay::load(cbits, 0, &mut c);
-    replay::load(sbits, 0, &mut s);
-    replay::load(&answers::RADII, 0, &mut radii);
-    replay::load(&answers::LATITUDES, 0, &mut latitudes);
-    replay::load(&answers::TRIG, 0, &mut trig);
+) -> io::Result<()> {
+    let c = replay::numbers(cbits);
+    let s = replay::numbers(sbits);
+    let radii = replay::numbers(&answers::RADII);
+    let latitudes = replay::numbers(&answers::LATITUDES);
+    let trig = replay::numbers(&answers::TRIG);
     let mut work = [0.0; 75];
     let mut out = [0.0; 60];
     match second_partials::second_partials_along(
-        head_of(4),
+        earth(4),
         &c,
         &s,
         6,
@@ -185,8 +158,8 @@ fn show_along(
         &mut work,
         &mut out,
     ) {
-        Answer::Done => show(stdout, b"second_partials_along ", &out, numbers, 0)?,
-        Answer::Refused(_) => {
+        Ok(()) => show(stdout, b"second_partials_along ", &out, numbers, 0)?,
+        Err(_) => {
             replay_print::print(stdout, b"second_partials_along refused\n")?;
         }
     }
@@ -194,23 +167,23 @@ fn show_along(
 }
 
 // Point i of a field of degree 130.
-fn large_at(i: usize) -> SecondPoint
+fn large_at(i: usize) -> Result<SecondPartials, Refusal>
     requires { i < 6 }
 {
     let c = [0.7; 8646];
     let s = [0.3; 8646];
     let trig = [0.6; 262];
     let r = number_of_bits(answers::RADII[i]);
-    let latitude = latitude_of(i);
+    let latitude = latitude_of(&answers::LATITUDES, i);
     let mut work = [0.0; 43230];
-    second_partials::second_partials(head_of(130), &c, &s, r, latitude, &trig, &mut work)
+    second_partials::second_partials(earth(130), &c, &s, r, latitude, &trig, &mut work)
 }
 
-fn show_large(stdout: Stdout, i: usize, k: usize) -> Result<()>
+fn show_large(stdout: Stdout, i: usize, k: usize) -> io::Result<()>
     requires { (i < 6) × (k < 2) }
 {
     match large_at(i) {
-        SecondPoint::At(at) => {
+        Ok(at) => {
             show_both(
                 stdout,
                 i,
@@ -220,7 +193,7 @@ fn show_large(stdout: Stdout, i: usize, k: usize) -> Result<()>
                 &answers::LARGE_TENSOR,
             )?
         }
-        SecondPoint::Refused(_) => {
+        Err(_) => {
             replay_print::print(stdout, b"second_partials refused\n")?;
         }
     }
@@ -228,12 +201,11 @@ fn show_large(stdout: Stdout, i: usize, k: usize) -> Result<()>
 }
 
 // The tensor of ten numbers that no field makes, at place i.
-fn show_tensor(stdout: Stdout, i: usize) -> Result<()>
+fn show_tensor(stdout: Stdout, i: usize) -> io::Result<()>
     requires { i < 6 }
 {
-    let mut x = [0.0; 10];
     let mut place = [0.0; 3];
-    replay::load(&answers::NUMBERS, 0, &mut x);
+    let x = replay::numbers(&answers::NUMBERS);
     replay::load(&answers::PLACES, 3 * i, &mut place);
     let at = SecondPartials {
         first: Partials {
@@ -263,7 +235,7 @@ fn show_tensor(stdout: Stdout, i: usize) -> Result<()>
     )
 }
 
-fn ordinary(stdout: Stdout) -> Result<()> {
+fn ordinary(stdout: Stdout) -> io::Result<()> {
     let c = answers::C;
     let s = answers::S;
     show_points(
@@ -305,7 +277,7 @@ fn ordinary(stdout: Stdout) -> Result<()> {
     show_along(stdout, &c, &s, &answers::OF_4_SECOND)
 }
 
-fn special(stdout: Stdout) -> Result<()> {
+fn special(stdout: Stdout) -> io::Result<()> {
     let c = answers::SPECIAL_C;
     let s = answers::SPECIAL_S;
     show_points(
@@ -329,7 +301,7 @@ fn special(stdout: Stdout) -> Result<()> {
     show_along(stdout, &c, &s, &answers::SPECIAL_OF_4_SECOND)
 }
 
-fn main(rt: HostRuntime) -> Result<()> {
+fn main(rt: HostRuntime) -> io::Result<()> {
     let stdout = rt.stdout();
     replay_print::control(stdout)?;
     ordinary(stdout)?;

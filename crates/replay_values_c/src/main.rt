@@ -8,9 +8,9 @@ mod tensors;
 mod told;
 mod values;
 
-use std::io::Result;
+use std::io;
 
-fn main(rt: HostRuntime) -> Result<()> {
+fn main(rt: HostRuntime) -> io::Result<()> {
     let stdout = rt.stdout();
     replay_cases::control(stdout)?;
     values::show_values(stdout)?;

@@ -1,6 +1,5 @@
 // Replays what the entries for the second derivatives hand on, and what they tell of their lists (answers.rt).
 use crate::answers;
-use crate::told::MARK_LENGTH;
 use geopotential::lists::{
     geopotential_second_partials_along_lengths, geopotential_second_partials_lengths,
     geopotential_tensor_neu_lengths,
@@ -8,12 +7,13 @@ use geopotential::lists::{
 use geopotential::tensors::{
     geopotential_second_partials, geopotential_second_partials_along, geopotential_tensor_neu,
 };
-use replay_cases::{MARK, print_line};
+use replay_cases::{MARK, print_lengths};
 use replay_print::show;
-use std::io::{Result, Stdout};
+use std::io;
+use std::io::Stdout;
 
 // A point of a field of degree 1, in a list with one place behind its numbers; of a refusal there is no line.
-fn show_point(stdout: Stdout) -> Result<()> {
+fn show_point(stdout: Stdout) -> io::Result<()> {
     let mut work = [0.0; 15];
     let mut out = [MARK; 11];
     let number = geopotential_second_partials(
@@ -42,7 +42,7 @@ fn show_point(stdout: Stdout) -> Result<()> {
 }
 
 // The same point and another.
-fn show_along(stdout: Stdout) -> Result<()> {
+fn show_along(stdout: Stdout) -> io::Result<()> {
     let mut work = [0.0; 15];
     let mut out = [MARK; 21];
     let number = geopotential_second_partials_along(
@@ -71,7 +71,7 @@ fn show_along(stdout: Stdout) -> Result<()> {
 }
 
 // The tensor of the numbers due of the first point.
-fn show_tensor(stdout: Stdout) -> Result<()> {
+fn show_tensor(stdout: Stdout) -> io::Result<()> {
     let mut x = [0.0; 10];
     replay::load(&answers::SECOND_PARTIALS, 0, &mut x);
     let mut out = [MARK; 10];
@@ -91,154 +91,84 @@ fn show_tensor(stdout: Stdout) -> Result<()> {
 }
 
 // What is told of the lists for a point, with a place behind the lengths, and then with one too few.
-fn of_point(nmax: usize) -> [u64; 7] {
-    let mut l = [MARK_LENGTH; 6];
-    let number = geopotential_second_partials_lengths(nmax, &mut l);
-    [
-        number as u64,
-        l[0] as u64,
-        l[1] as u64,
-        l[2] as u64,
-        l[3] as u64,
-        l[4] as u64,
-        l[5] as u64,
-    ]
-}
-
-fn of_point_short() -> [u64; 5] {
-    let mut l = [MARK_LENGTH; 4];
-    let number = geopotential_second_partials_lengths(3, &mut l);
-    [
-        number as u64,
-        l[0] as u64,
-        l[1] as u64,
-        l[2] as u64,
-        l[3] as u64,
-    ]
-}
-
-fn show_point_lengths(stdout: Stdout) -> Result<()> {
-    let small = of_point(3);
-    print_line(
+fn show_point_lengths(stdout: Stdout) -> io::Result<()> {
+    print_lengths(
         stdout,
         b"second_partials_lengths ",
-        &small,
+        |l| geopotential_second_partials_lengths(3, l),
         &answers::SECOND_LENGTHS,
     )?;
-    let large = of_point(2700);
-    print_line(
+    print_lengths(
         stdout,
         b"second_partials_lengths, 2700 ",
-        &large,
+        |l| geopotential_second_partials_lengths(2700, l),
         &answers::SECOND_LENGTHS_LARGE,
     )?;
-    let beyond = of_point(2701);
-    print_line(
+    print_lengths(
         stdout,
         b"second_partials_lengths, 2701 ",
-        &beyond,
+        |l| geopotential_second_partials_lengths(2701, l),
         &answers::SECOND_LENGTHS_BEYOND,
     )?;
-    let short = of_point_short();
-    print_line(
+    print_lengths(
         stdout,
         b"second_partials_lengths, SPACE ",
-        &short,
+        |l| geopotential_second_partials_lengths(3, l),
         &answers::SECOND_LENGTHS_SHORT,
     )
 }
 
 // Of those for many points.
-fn of_points(nmax: usize, points: usize) -> [u64; 9] {
-    let mut l = [MARK_LENGTH; 8];
-    let number = geopotential_second_partials_along_lengths(nmax, points, &mut l);
-    [
-        number as u64,
-        l[0] as u64,
-        l[1] as u64,
-        l[2] as u64,
-        l[3] as u64,
-        l[4] as u64,
-        l[5] as u64,
-        l[6] as u64,
-        l[7] as u64,
-    ]
-}
-
-fn of_points_short() -> [u64; 7] {
-    let mut l = [MARK_LENGTH; 6];
-    let number = geopotential_second_partials_along_lengths(3, 2, &mut l);
-    [
-        number as u64,
-        l[0] as u64,
-        l[1] as u64,
-        l[2] as u64,
-        l[3] as u64,
-        l[4] as u64,
-        l[5] as u64,
-    ]
-}
-
-fn show_along_lengths(stdout: Stdout) -> Result<()> {
-    let small = of_points(3, 2);
-    print_line(
+fn show_along_lengths(stdout: Stdout) -> io::Result<()> {
+    print_lengths(
         stdout,
         b"second_partials_along_lengths ",
-        &small,
+        |l| geopotential_second_partials_along_lengths(3, 2, l),
         &answers::ALONG_LENGTHS,
     )?;
-    let large = of_points(2700, 65535);
-    print_line(
+    print_lengths(
         stdout,
         b"second_partials_along_lengths, 2700 ",
-        &large,
+        |l| geopotential_second_partials_along_lengths(2700, 65535, l),
         &answers::ALONG_LENGTHS_LARGE,
     )?;
-    let beyond = of_points(2701, 2);
-    print_line(
+    print_lengths(
         stdout,
         b"second_partials_along_lengths, 2701 ",
-        &beyond,
+        |l| geopotential_second_partials_along_lengths(2701, 2, l),
         &answers::ALONG_LENGTHS_BEYOND,
     )?;
-    let many = of_points(3, 65536);
-    print_line(
+    print_lengths(
         stdout,
         b"second_partials_along_lengths, 65536 ",
-        &many,
+        |l| geopotential_second_partials_along_lengths(3, 65536, l),
         &answers::ALONG_LENGTHS_MANY,
     )?;
-    let short = of_points_short();
-    print_line(
+    print_lengths(
         stdout,
         b"second_partials_along_lengths, SPACE ",
-        &short,
+        |l| geopotential_second_partials_along_lengths(3, 2, l),
         &answers::ALONG_LENGTHS_SHORT,
     )
 }
 
 // Of the one for a tensor.
-fn show_tensor_lengths(stdout: Stdout) -> Result<()> {
-    let mut l = [MARK_LENGTH; 2];
-    let number = geopotential_tensor_neu_lengths(&mut l);
-    let told = [number as u64, l[0] as u64, l[1] as u64];
-    print_line(
+fn show_tensor_lengths(stdout: Stdout) -> io::Result<()> {
+    print_lengths(
         stdout,
         b"tensor_neu_lengths ",
-        &told,
+        geopotential_tensor_neu_lengths,
         &answers::TENSOR_LENGTHS,
     )?;
-    let mut none = [MARK_LENGTH; 0];
-    let short = [geopotential_tensor_neu_lengths(&mut none) as u64];
-    print_line(
+    print_lengths(
         stdout,
         b"tensor_neu_lengths, SPACE ",
-        &short,
+        geopotential_tensor_neu_lengths,
         &answers::TENSOR_LENGTHS_SHORT,
     )
 }
 
-pub fn show_tensors(stdout: Stdout) -> Result<()> {
+pub fn show_tensors(stdout: Stdout) -> io::Result<()> {
     show_point(stdout)?;
     show_along(stdout)?;
     show_tensor(stdout)?;

@@ -8,7 +8,8 @@ use geopotential::models::{
 };
 use number::bits_of_number;
 use replay_cases::{MARK, MARK_BYTE, MARK_WORD, print_line};
-use std::io::{Result, Stdout};
+use std::io;
+use std::io::Stdout;
 
 fn pair(number: u32, value: f64) -> [u64; 2] {
     [number as u64, bits_of_number(value)]
@@ -22,7 +23,7 @@ fn factor(functional: u32, love: &[f64]) -> [u64; 2] {
 }
 
 // Of each functional, and of the last two with one Love number too few.
-fn show_factors(stdout: Stdout) -> Result<()> {
+fn show_factors(stdout: Stdout) -> io::Result<()> {
     let love = [0.125, 0.25, 0.5, 0.75];
     let short = [0.125, 0.25, 0.5];
     let a = factor(0, &love);
@@ -40,21 +41,29 @@ fn show_factors(stdout: Stdout) -> Result<()> {
     print_line(stdout, b"factor, values ", &words, &answers::FACTOR)
 }
 
-fn entry_c(n: usize, m: usize) -> [u64; 2] {
-    let c = [1.0, 2.0, 3.0];
+// The entry of n and m by a call.
+fn entry<F: FnOnce(usize, &[f64], usize, usize, &mut f64) -> u32>(
+    call: F,
+    list: &[f64; 3],
+    n: usize,
+    m: usize,
+) -> [u64; 2]
+    requires { F.IsAlwaysCallable call }
+{
     let mut value = MARK;
-    let number = geopotential_coefficient_c(1, &c, n, m, &mut value);
+    let number = call(1, list, n, m, &mut value);
     pair(number, value)
+}
+
+fn entry_c(n: usize, m: usize) -> [u64; 2] {
+    entry(geopotential_coefficient_c, &[1.0, 2.0, 3.0], n, m)
 }
 
 fn entry_s(n: usize, m: usize) -> [u64; 2] {
-    let s = [4.0, 5.0, 6.0];
-    let mut value = MARK;
-    let number = geopotential_coefficient_s(1, &s, n, m, &mut value);
-    pair(number, value)
+    entry(geopotential_coefficient_s, &[4.0, 5.0, 6.0], n, m)
 }
 
-fn show_entries(stdout: Stdout) -> Result<()> {
+fn show_entries(stdout: Stdout) -> io::Result<()> {
     let a = entry_c(1, 0);
     let b = entry_c(1, 2);
     let c = entry_c(2, 0);
@@ -93,7 +102,7 @@ fn set(n: usize, m: usize) -> [u64; 7] {
     ]
 }
 
-fn show_set(stdout: Stdout) -> Result<()> {
+fn show_set(stdout: Stdout) -> io::Result<()> {
     let a = set(1, 0);
     let b = set(1, 2);
     let words = [
@@ -103,7 +112,7 @@ fn show_set(stdout: Stdout) -> Result<()> {
 }
 
 // Zeros in lists with one place behind them.
-fn show_zeros(stdout: Stdout) -> Result<()> {
+fn show_zeros(stdout: Stdout) -> io::Result<()> {
     let mut c = [MARK; 4];
     let mut s = [MARK; 4];
     let number = geopotential_zeros(3.5, 7.25, 1, &mut c, &mut s);
@@ -148,7 +157,7 @@ fn read(bytes: &[u8]) -> [u64; 16] {
 }
 
 // Of the file, of the same with a date, of one with a record of another kind, of one with a byte too many.
-fn show_read(stdout: Stdout) -> Result<()> {
+fn show_read(stdout: Stdout) -> io::Result<()> {
     let whole = read(&answers::FILE);
     print_line(stdout, b"model_read, values ", &whole, &answers::READ)?;
     let dated = read(&answers::DATED);
@@ -167,7 +176,7 @@ fn show_read(stdout: Stdout) -> Result<()> {
 }
 
 // What is read of the files that are written of the same numbers; the first has no date, whatever the day count.
-fn show_written(stdout: Stdout) -> Result<()> {
+fn show_written(stdout: Stdout) -> io::Result<()> {
     let mut out = [MARK_BYTE; 72];
     let mut long = [MARK_BYTE; 76];
     let c = [0x0102_0304_0506_0708, 1, 0xffff_ffff_ffff_ffff];
@@ -188,7 +197,7 @@ fn show_written(stdout: Stdout) -> Result<()> {
     )
 }
 
-pub fn show_values(stdout: Stdout) -> Result<()> {
+pub fn show_values(stdout: Stdout) -> io::Result<()> {
     show_factors(stdout)?;
     show_entries(stdout)?;
     show_set(stdout)?;

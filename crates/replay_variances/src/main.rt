@@ -1,16 +1,17 @@
 // Prints, for each of some model files, its name and what `variances` prints for it.
 #![tactic(auto)]
 
-use std::io::{Result, Stdout, Write};
+use std::io;
+use std::io::{Stdout, Write};
 
-fn print(mut stdout: Stdout, name: &[u8], bytes: &[u8]) -> Result<()> {
+fn print(mut stdout: Stdout, name: &[u8], bytes: &[u8]) -> io::Result<()> {
     stdout.write_all(name)?;
     let mut text = [0u8; 1756];
     let k = variance_report::report(bytes, &mut text);
     stdout.write_all(&text[..k])
 }
 
-fn print_heads(stdout: Stdout) -> Result<()> {
+fn print_heads(stdout: Stdout) -> io::Result<()> {
     print(
         stdout,
         b"the example of document 01\n",
@@ -49,7 +50,7 @@ fn print_heads(stdout: Stdout) -> Result<()> {
     )
 }
 
-fn print_damaged(stdout: Stdout) -> Result<()> {
+fn print_damaged(stdout: Stdout) -> io::Result<()> {
     print(
         stdout,
         b"a pair of kind 3\n",
@@ -82,7 +83,7 @@ fn print_damaged(stdout: Stdout) -> Result<()> {
     )
 }
 
-fn print_whole(stdout: Stdout) -> Result<()> {
+fn print_whole(stdout: Stdout) -> io::Result<()> {
     print(
         stdout,
         b"degree 1\n",
@@ -100,7 +101,7 @@ fn print_whole(stdout: Stdout) -> Result<()> {
     )
 }
 
-fn print_dated(stdout: Stdout) -> Result<()> {
+fn print_dated(stdout: Stdout) -> io::Result<()> {
     print(
         stdout,
         b"degree 1 with the date 1999-12-31\n",
@@ -133,7 +134,7 @@ fn print_dated(stdout: Stdout) -> Result<()> {
     )
 }
 
-fn main(rt: HostRuntime) -> Result<()> {
+fn main(rt: HostRuntime) -> io::Result<()> {
     let stdout = rt.stdout();
     print_heads(stdout)?;
     print_damaged(stdout)?;

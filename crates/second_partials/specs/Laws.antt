@@ -1,26 +1,20 @@
 -- A point of `second_partials_along` is what `second_partials` answers for it alone, bit by bit; and of the first derivatives that it gives, V and
 -- ∂V/∂φ are those of `partials`. Assumes nothing.
-use Rattle.std.specs.Prelude.{◌≡◌, List, ℕ, ◌+◌, ◌≤◌, ◌<◌, length, Float}
+use Rattle.std.specs.Prelude.{◌≡◌, List, ℕ, ◌+◌, ◌≤◌, ◌<◌, length, Float, Err, Ok, Result, ⊤}
 use Rattle.std.proofs.Math.Path.{refl, sym, ap}
 use Rattle.std.proofs.Common.{◌∙◌, arith}
 use Rattle.number.specs.Float64.{◌⊘◌}
-use Rattle.refusal.specs.declared.Answer.{Answer}
-use Rattle.refusal.specs.declared.Answer.TheVariants.{Done}
-use Rattle.refusal.specs.declared.Answer.TheVariants.{Refused as NotDone}
 use Rattle.legendre.specs.Directions.{cosines, sines}
 use Rattle.local.specs.declared.Partials.{Partials}
 use Rattle.local.specs.declared.SecondPartials.{SecondPartials}
-use Rattle.local.specs.declared.Point.{Point}
-use Rattle.local.specs.declared.Point.TheVariants.{At as FirstAt}
-use Rattle.local.specs.declared.Point.TheVariants.{Refused as FirstRefused}
-use Rattle.local.specs.declared.SecondPoint.{SecondPoint}
-use Rattle.local.specs.declared.SecondPoint.TheVariants.{At, Refused}
-use Rattle.local.specs.Point.{even_row, degree_sum, partials_of, point_at, point_if}
-use Rattle.local.specs.Second.{across_row, curve_row, falling, falling_twice, second_of, second_at, second_if, second_check}
+use Rattle.local.specs.Point.{even_row, degree_sum, partials_of, point_at}
+use Rattle.local.specs.Second.{across_row, curve_row, falling, falling_twice, second_of, second_at, second_check}
 use Rattle.point_sums.specs.Sums.{even_same, degree_same}
 use Rattle.second_sums.specs.Sums.{across_same, curve_same}
 use Rattle.point_lists.specs.Checks.{Accepted}
 use Rattle.point_lists.specs.Alone.{own_trig, own_cosine, own_sine, own_passed}
+use Rattle.refusal.specs.declared.Refusal.{Refusal}
+use Rattle.refusal.specs.Numbers.{value_if}
 
 -- a point depends on the cosines and sines of the orders up to N alone
 module _ (gm radius r : Float) (P dP ddP c s : ℕ → ℕ → Float) (cos cos' sin sin' : ℕ → Float) (N : ℕ) (ec : (m : ℕ) → m ≤ N → cos m ≡ cos' m)
@@ -72,30 +66,30 @@ module _ (N i : ℕ) (trig : List Float) (gm radius : Float) (c s : List Float) 
 
   -- where `second_partials_along` is done, `second_partials` answers so for each of its points
   pub answer_alone : (points radii lats work out : ℕ) → Accepted 5 10 N (length c) (length s) points radii lats (length trig) work out → i < points
-      → second_if (second_check N (length c) (length s) (length (own_trig N i trig)) work) (second_at gm radius N c s (own_trig N i trig) 0 r t u)
-      ≡ At (second_at gm radius N c s trig i r t u)
+      → value_if (second_check N (length c) (length s) (length (own_trig N i trig)) work) (second_at gm radius N c s (own_trig N i trig) 0 r t u)
+      ≡ Ok (second_at gm radius N c s trig i r t u)
   answer_alone points radii lats work out k h =
       let done = own_passed N i trig 5 10 (length c) (length s) points radii lats work out k h in
-      ap (λ (y : Answer). second_if y (second_at gm radius N c s (own_trig N i trig) 0 r t u)) (sym done) ∙ ap At second_alone
+      ap (λ (y : Result ⊤ Refusal). value_if y (second_at gm radius N c s (own_trig N i trig) 0 r t u)) (sym done) ∙ ap Ok second_alone
 
 -- what an answer gives, or else a point that is at hand
-given_first : Partials → Point → Partials
-given_first d (FirstAt p) = p
-given_first d (FirstRefused e) = d
+given_first : Partials → Result Partials Refusal → Partials
+given_first d (Ok p) = p
+given_first d (Err e) = d
 
-given_first_lem : (x : Answer) (p : Partials) → given_first p (point_if x p) ≡ p
+given_first_lem : (x : Result ⊤ Refusal) (p : Partials) → given_first p (value_if x p) ≡ p
 unfolding given_first
-given_first_lem Done p = refl
-given_first_lem (NotDone e) p = refl
+given_first_lem (Ok _) p = refl
+given_first_lem (Err e) p = refl
 
-given_second : SecondPartials → SecondPoint → SecondPartials
-given_second d (At p) = p
-given_second d (Refused e) = d
+given_second : SecondPartials → Result SecondPartials Refusal → SecondPartials
+given_second d (Ok p) = p
+given_second d (Err e) = d
 
-given_second_lem : (y : Answer) (p : SecondPartials) → given_second p (second_if y p) ≡ p
+given_second_lem : (y : Result ⊤ Refusal) (p : SecondPartials) → given_second p (value_if y p) ≡ p
 unfolding given_second
-given_second_lem Done p = refl
-given_second_lem (NotDone e) p = refl
+given_second_lem (Ok _) p = refl
+given_second_lem (Err e) p = refl
 
 -- ---- V and ∂V/∂φ are those of `partials`: their sums have one order of operations. Those of ∂V/∂r and ∂V/∂λ have not
 module _ (gm radius : Float) (N : ℕ) (c s trig : List Float) (i : ℕ) (r t u : Float) where
@@ -108,8 +102,8 @@ module _ (gm radius : Float) (N : ℕ) (c s trig : List Float) (i : ℕ) (r t u 
   same_dlat = refl
 
   -- so on what the two calls answer
-  pub same_answered : (x y : Answer) {p : Partials} {q : SecondPartials} → FirstAt p ≡ point_if x (point_at gm radius N c s trig i r t u)
-      → At q ≡ second_if y (second_at gm radius N c s trig i r t u) → (q.first.v ≡ p.v) × (q.first.dlat ≡ p.dlat)
+  pub same_answered : (x y : Result ⊤ Refusal) {p : Partials} {q : SecondPartials} → Ok p ≡ value_if x (point_at gm radius N c s trig i r t u)
+      → Ok q ≡ value_if y (second_at gm radius N c s trig i r t u) → (q.first.v ≡ p.v) × (q.first.dlat ≡ p.dlat)
   unfolding given_first given_second
   same_answered x y ep eq =
       let first = point_at gm radius N c s trig i r t u in

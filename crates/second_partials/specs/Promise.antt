@@ -1,23 +1,20 @@
 -- The point as its sums make it, the output of a call point by point, and its answer for one point. Assumes nothing.
-use Rattle.std.specs.Prelude.{◌≡◌, List, [], ◌∷◌, ℕ, ◌+◌, ◌*◌, ◌≤◌, ◌<◌, length, Float}
+use Rattle.std.specs.Prelude.{◌≡◌, List, [], ◌∷◌, ℕ, ◌+◌, ◌*◌, ◌≤◌, ◌<◌, length, Float, Err, Ok, Result, ⊤}
 use Rattle.std.proofs.Common.{ap, ◌∙◌, arith}
 use Rattle.std.proofs.Math.ListN.{get_or}
 use Rattle.std.specs.Float.Ieee.{nan}
-use Rattle.refusal.specs.declared.Answer.{Answer}
-use Rattle.refusal.specs.declared.Answer.TheVariants.{Done}
-use Rattle.refusal.specs.declared.Answer.TheVariants.{Refused as NotDone}
 use Rattle.refusal.specs.declared.Refusal.{Refusal}
 use Rattle.number.specs.Float64.{◌⊗◌, ◌⊘◌}
 use Rattle.storage.specs.Filled.{Filled, filled_same}
 use Rattle.storage.specs.Triangle.{table_size}
 use Rattle.legendre.specs.Directions.{row_sine, row_cosine, cosines, sines}
 use Rattle.local.specs.declared.SecondPartials.{SecondPartials}
-use Rattle.local.specs.declared.SecondPoint.TheVariants.{At, Refused}
-use Rattle.local.specs.Second.{second_of, second_at, second_if, second_component, second_cell}
+use Rattle.local.specs.Second.{second_of, second_at, second_component, second_cell}
 use Rattle.point_lists.specs.Made.{Made, made_one}
 use Rattle.point_sums.specs.Sums.{cosine_from, sine_from}
 use Rattle.second_sums.specs.declared.SecondSums.{SecondSums}
 use Rattle.second_sums.specs.Sums.{sums_below, second_sums}
+use Rattle.refusal.specs.Numbers.{value_if}
 
 -- by their lengths, the lists beside the working list have room for the degrees and orders up to N
 pub record FieldRoom (N c s rows : ℕ) : Type 0 where
@@ -55,14 +52,14 @@ second_row gm radius N c s trig radii lats i er et eu ex f =
     (λ j h. ap (λ (y : SecondPartials). second_component y j) (rw (er, et, eu) at ex))
 
 -- ---- the answer for one point
-module _ {a : Answer} where
-  pub second_refused : (e : Refusal) (p : SecondPartials) → NotDone e ≡ a → Refused e ≡ second_if a p
-  second_refused e p h = ap (λ (y : Answer). second_if y p) h
+module _ {a : Result ⊤ Refusal} where
+  pub second_refused : (e : Refusal) (p : SecondPartials) → Err e ≡ a → Err e ≡ value_if a p
+  second_refused e p h = ap (λ (y : Result ⊤ Refusal). value_if y p) h
 
   -- the ten numbers of a list of one point
-  pub one_second : (gm radius : Float) (N : ℕ) (c s trig : List Float) (r t u : Float) {front : ℕ} {w w' o o' : List Float} → Done ≡ a
+  pub one_second : (gm radius : Float) (N : ℕ) (c s trig : List Float) (r t u : Float) {front : ℕ} {w w' o o' : List Float} → Ok tt ≡ a
       → Made (second_cell gm radius N c s trig (r ∷ []) (t ∷ (u ∷ []))) 10 front 1 w w' o o' → 10 ≤ length o
-      → At (record {
+      → Ok (record {
         first = record { v = get_or o' 0 nan; dr = get_or o' 1 nan; dlat = get_or o' 2 nan; dlon = get_or o' 3 nan };
         drr = get_or o' 4 nan;
         dlatlat = get_or o' 5 nan;
@@ -71,7 +68,7 @@ module _ {a : Answer} where
         drlon = get_or o' 8 nan;
         dlatlon = get_or o' 9 nan;
       })
-      ≡ second_if a (second_at gm radius N c s trig 0 r t u)
+      ≡ value_if a (second_at gm radius N c s trig 0 r t u)
   unfolding second_cell second_component row_sine row_cosine
   one_second gm radius N c s trig r t u {o' = o'} h made room =
       let p = second_at gm radius N c s trig 0 r t u in
@@ -86,4 +83,4 @@ module _ {a : Answer} where
       let drlat : get_or o' 7 nan ≡ p.drlat = number 7 (omega arith) in
       let drlon : get_or o' 8 nan ≡ p.drlon = number 8 (omega arith) in
       let dlatlon : get_or o' 9 nan ≡ p.dlatlon = number 9 (omega arith) in
-      rw (v, dr, dlat, dlon, drr, dlatlat, dlonlon, drlat, drlon, dlatlon) (ap (λ (y : Answer). second_if y p) h)
+      rw (v, dr, dlat, dlon, drr, dlatlat, dlonlon, drlat, drlon, dlatlon) (ap (λ (y : Result ⊤ Refusal). value_if y p) h)

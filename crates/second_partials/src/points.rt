@@ -150,15 +150,13 @@ pub fn all_points(
         (points * 10) out.old out.new }
     ensures worked { Worked nmax work.old work.new }
 {
-    let mut i = 0;
     let mut at = 0;
-    while i < points {
+    for i in 0..points {
         let latitude = legendre::directions::latitude_of(i, latitudes);
         let x = point(
             i, gm, radius, nmax, total, radii[i], latitude, c, s, trig, work, rows,
         );
         store_point(at, x, out);
-        i = i + 1;
         at = at + 10;
     }
 }

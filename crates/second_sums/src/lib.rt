@@ -52,13 +52,11 @@ fn inner_pairs(n: usize, at: usize, t: f64, pmm: f64, a: &[f64], b: &[f64], rows
         rows.old rows.new }
 {
     let last = n - 1;
-    let mut m = 0;
-    while m < last {
+    for m in 0..last {
         let newer = rows[m + m];
         let older = rows[m + m + 1];
         rows[m + m] = a[at + m] * t * newer - b[at + m] * older;
         rows[m + m + 1] = newer;
-        m = m + 1;
     }
 }
 
@@ -151,10 +149,9 @@ fn row_sums(
     let mut lon = 0.0;
     let mut lonlon = 0.0;
     let mut latlon = 0.0;
-    let mut m = 0;
     // m as a number, counted along since a cast takes longer
     let mut mf = 0.0;
-    while m < count {
+    for m in 0..count {
         let beyond = scaled(n, m + 2, rows, r);
         let ahead = derived(n, m + 1, at, w, p, beyond);
         let dd = derived(n, m, at, w, behind, ahead);
@@ -174,7 +171,6 @@ fn row_sums(
         above = beyond;
         behind = d;
         d = ahead;
-        m = m + 1;
         mf = mf + 1.0;
     }
     SecondRow {
@@ -288,13 +284,11 @@ pub fn add_degrees(
         dlatlon: 0.0,
     };
     let mut at = 0;
-    let mut n = 0;
-    while n <= nmax {
+    for n in 0..nmax + 1 {
         sums = add_degree(
             n, at, k, q, t, sums, a, b, w, c, s, trig, sectorals, r, rows,
         );
         at = at + n + 1;
-        n = n + 1;
     }
     sums
 }

@@ -1,5 +1,5 @@
 -- The average of a field over a basin: the checks of the call, the loops' laws, and demand 3 for what is answered. Assumes nothing.
-use Rattle.std.specs.Prelude.{◌≡◌, refl, Bool, true, false, not, List, T, ltb, get_or, Float}
+use Rattle.std.specs.Prelude.{◌≡◌, refl, Bool, true, false, not, List, T, ltb, get_or, Float, Err, Ok, Result, ⊤}
 use Rattle.std.proofs.Math.Path.{sym, ap}
 use Rattle.std.proofs.Common.{subst, ◌∙◌, le_trans, lt-ltb, le-ltb}
 use Prim.Native.Nat.{ℕ, suc, ◌+◌, ◌≤◌, ◌<◌, min}
@@ -8,18 +8,13 @@ use Rattle.std.proofs.Math.Nat.{min-le_left}
 use Rattle.std.specs.Float.{nan}
 use Rattle.std.specs.Float.Ieee.{binary64}
 use Rattle.std.specs.Float.Ieee.Scale.{finite}
-use Rattle.refusal.specs.Numbers.{refuse, refuse_yes, refuse_no, value_if}
-use Rattle.refusal.specs.declared.Answer.{Answer}
-use Rattle.refusal.specs.declared.Answer.TheVariants.{Done, Refused}
-use Rattle.refusal.specs.declared.Number.{Number}
-use Rattle.refusal.specs.declared.Number.TheVariants.{Value}
-use Rattle.refusal.specs.declared.Number.TheVariants.{Refused as NoValue}
+use Rattle.refusal.specs.Numbers.{refuse, refuse_yes, refuse_no, value_if, both, done_then, refused_then, ◌and_then◌}
 use Rattle.refusal.specs.declared.Refusal.{Refusal}
 use Rattle.refusal.specs.declared.Refusal.TheVariants.{Size, Love}
 use Rattle.number.specs.Float64.{◌⊕◌, ◌⊗◌, ◌⊘◌}
 use Rattle.storage.specs.Elements.{from}
 use Rattle.storage.specs.Triangle.{cells, row_start, row_start_zero}
-use Rattle.storage.specs.Checks.{◌and_then◌, tables_check, Tables, tables_passed, both, past, refused_then, done_then}
+use Rattle.storage.specs.Checks.{tables_check, Tables, tables_passed, past}
 use Rattle.functional.specs.declared.Functional.{Functional}
 use Rattle.functional.specs.Factor.{factor_of, factor_fits}
 use Rattle.rounding.specs.Sums.{running_sum, triangle_sum}
@@ -29,41 +24,41 @@ use Rattle.rounding.proofs.Theorems.{average-within}
 
 -- demand 3: the answer x, where it is a finite value, is within the margin of the exact average up to degree N of a field c, s with a kernel whose first
 -- number is at most 1 in size
-abbrev pub WithinMargin : (c s kernel_c kernel_s : ℕ → ℕ → Float) (factor : ℕ → Float) (N : ℕ) (x : Number) → Type 0
+abbrev pub WithinMargin : (c s kernel_c kernel_s : ℕ → ℕ → Float) (factor : ℕ → Float) (N : ℕ) (x : Result Float Refusal) → Type 0
 WithinMargin c s kernel_c kernel_s factor N x =
-    (v : Float) → x ≡ Value v → T (finite v) → AtMostOne (kernel_c 0 0) → AverageWithin c s kernel_c kernel_s factor N v
+    (v : Float) → x ≡ Ok v → T (finite v) → AtMostOne (kernel_c 0 0) → AverageWithin c s kernel_c kernel_s factor N v
 
 -- SIZE: a degree above 2700; LENGTH: a table of field or kernel that has not exactly its entries; LOVE: too few Love numbers
-unfoldable pub average_check : ℕ → ℕ → ℕ → ℕ → ℕ → ℕ → Bool → Answer
+unfoldable pub average_check : ℕ → ℕ → ℕ → ℕ → ℕ → ℕ → Bool → Result ⊤ Refusal
 average_check nmax clen slen kmax kclen kslen lacks =
-    refuse (ltb 2700 kmax) Size (tables_check nmax clen slen and_then tables_check kmax kclen kslen and_then refuse lacks Love Done)
+    refuse (ltb 2700 kmax) Size (tables_check nmax clen slen and_then tables_check kmax kclen kslen and_then refuse lacks Love (Ok tt))
 
 -- one law for each way through them
 module _ (nmax clen slen kmax kclen kslen : ℕ) (lacks : Bool) where
-  abbrev rest : Answer
-  rest = tables_check nmax clen slen and_then tables_check kmax kclen kslen and_then refuse lacks Love Done
+  abbrev rest : Result ⊤ Refusal
+  rest = tables_check nmax clen slen and_then tables_check kmax kclen kslen and_then refuse lacks Love (Ok tt)
 
-  pub check_size : 2700 < kmax → Refused Size ≡ average_check nmax clen slen kmax kclen kslen lacks
+  pub check_size : 2700 < kmax → Err Size ≡ average_check nmax clen slen kmax kclen kslen lacks
   unfolding average_check
   check_size h = sym (refuse_yes Size rest (lt-ltb 2700 kmax h))
 
   module _ (h : kmax ≤ 2700) where
-    past_size : {a : Answer} → a ≡ rest → a ≡ average_check nmax clen slen kmax kclen kslen lacks
+    past_size : {a : Result ⊤ Refusal} → a ≡ rest → a ≡ average_check nmax clen slen kmax kclen kslen lacks
     unfolding average_check
     past_size g = g ∙ sym (refuse_no Size rest (le-ltb 2700 kmax h))
 
-    pub check_field : {e : Refusal} → Refused e ≡ tables_check nmax clen slen → Refused e ≡ average_check nmax clen slen kmax kclen kslen lacks
+    pub check_field : {e : Refusal} → Err e ≡ tables_check nmax clen slen → Err e ≡ average_check nmax clen slen kmax kclen kslen lacks
     check_field g = past_size (refused_then _ _ g)
 
-    module _ (f : Done ≡ tables_check nmax clen slen) where
-      pub check_kernel : {e : Refusal} → Refused e ≡ tables_check kmax kclen kslen → Refused e ≡ average_check nmax clen slen kmax kclen kslen lacks
+    module _ (f : Ok tt ≡ tables_check nmax clen slen) where
+      pub check_kernel : {e : Refusal} → Err e ≡ tables_check kmax kclen kslen → Err e ≡ average_check nmax clen slen kmax kclen kslen lacks
       check_kernel g = past_size (done_then f (refused_then _ _ g))
 
-      pub check_love : Done ≡ tables_check kmax kclen kslen → lacks ≡ true → Refused Love ≡ average_check nmax clen slen kmax kclen kslen lacks
-      check_love g l = past_size (done_then f (done_then g (sym (refuse_yes Love Done l))))
+      pub check_love : Ok tt ≡ tables_check kmax kclen kslen → lacks ≡ true → Err Love ≡ average_check nmax clen slen kmax kclen kslen lacks
+      check_love g l = past_size (done_then f (done_then g (sym (refuse_yes Love (Ok tt) l))))
 
-      pub check_done : Done ≡ tables_check kmax kclen kslen → lacks ≡ false → Done ≡ average_check nmax clen slen kmax kclen kslen lacks
-      check_done g l = past_size (done_then f (done_then g (sym (refuse_no Love Done l))))
+      pub check_done : Ok tt ≡ tables_check kmax kclen kslen → lacks ≡ false → Ok tt ≡ average_check nmax clen slen kmax kclen kslen lacks
+      check_done g l = past_size (done_then f (done_then g (sym (refuse_no Love (Ok tt) l))))
 
 -- the term of order m in a degree whose entries start at index `at`
 unfoldable pub degree_term : Float → ℕ → (c s c' s' : List Float) → ℕ → Float
@@ -96,11 +91,11 @@ module _ (c s c' s' : List Float) (factor : ℕ → Float) where
 
 -- ---- demand 3
 -- a value is answered past every check alone
-passed : (a : Answer) {x v : Float} → value_if a x ≡ Value v → (Done ≡ a) × (v ≡ x)
-passed Done h = (refl, cc)
-passed (Refused e) h = absurd (let z : ◌≡◌ {A = ℕ} 0 1 = cc in omega arith)
+passed : (a : Result ⊤ Refusal) {x v : Float} → value_if a x ≡ Ok v → (Ok tt ≡ a) × (v ≡ x)
+passed (Ok _) h = (refl, cc)
+passed (Err e) h = absurd (let z : ◌≡◌ {A = ℕ} 0 1 = cc in omega arith)
 
-pub check_top : (nmax clen slen kmax kclen kslen : ℕ) (lacks : Bool) → Done ≡ average_check nmax clen slen kmax kclen kslen lacks
+pub check_top : (nmax clen slen kmax kclen kslen : ℕ) (lacks : Bool) → Ok tt ≡ average_check nmax clen slen kmax kclen kslen lacks
     → Tables nmax clen slen × Tables kmax kclen kslen × (lacks ≡ false)
 unfolding average_check
 check_top nmax clen slen kmax kclen kslen lacks h =
@@ -118,22 +113,22 @@ module _ (nmax clen slen kmax kclen kslen : ℕ) (lacks : Bool) (c s c' s' : Lis
   abbrev pub value : Float
   value = average (cells c nan) (cells s nan) (cells c' nan) (cells s' nan) (factor_of f love gm radius r) (min nmax kmax)
 
-  abbrev pub answer : Number
+  abbrev pub answer : Result Float Refusal
   answer = value_if (average_check nmax clen slen kmax kclen kslen lacks) value
 
   -- the answer past the checks, and on a refusal
-  pub answer-value : {found : Bool} {x : Float} → Done ≡ average_check nmax clen slen kmax kclen kslen found → found ≡ lacks → x ≡ value → Value x ≡ answer
-  answer-value h g e = ap Value e ∙ ap (λ (a : Answer). value_if a value) (h ∙ ap (average_check nmax clen slen kmax kclen kslen) g)
+  pub answer-value : {found : Bool} {x : Float} → Ok tt ≡ average_check nmax clen slen kmax kclen kslen found → found ≡ lacks → x ≡ value → Ok x ≡ answer
+  answer-value h g e = ap Ok e ∙ ap (λ (a : Result ⊤ Refusal). value_if a value) (h ∙ ap (average_check nmax clen slen kmax kclen kslen) g)
 
-  pub answer_refused : {found : Bool} {e : Refusal} → Refused e ≡ average_check nmax clen slen kmax kclen kslen found → found ≡ lacks → NoValue e ≡ answer
-  answer_refused h g = ap (λ (a : Answer). value_if a value) (h ∙ ap (average_check nmax clen slen kmax kclen kslen) g)
+  pub answer_refused : {found : Bool} {e : Refusal} → Err e ≡ average_check nmax clen slen kmax kclen kslen found → found ≡ lacks → Err e ≡ answer
+  answer_refused h g = ap (λ (a : Result ⊤ Refusal). value_if a value) (h ∙ ap (average_check nmax clen slen kmax kclen kslen) g)
 
   -- where the kernel's first number is at most 1 in size, a finite value times it lies within the margin of the exact sum
-  abbrev pub Within : Number → Type 0
+  abbrev pub Within : Result Float Refusal → Type 0
   Within = WithinMargin (cells c nan) (cells s nan) (cells c' nan) (cells s' nan) (factor_of f love gm radius r) (min nmax kmax)
 
   -- whatever is answered has both properties
-  pub promised : TableFits (cells c nan) → TableFits (cells s nan) → TableFits (cells c' nan) → TableFits (cells s' nan) → {x : Number} → x ≡ answer
+  pub promised : TableFits (cells c nan) → TableFits (cells s nan) → TableFits (cells c' nan) → TableFits (cells s' nan) → {x : Result Float Refusal} → x ≡ answer
       → (x ≡ answer) × Within x
   promised fc fs fc' fs' {x} e = (e, within)
     where

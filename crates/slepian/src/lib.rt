@@ -1,10 +1,9 @@
 // Averages of a field over a basin, by the coefficients of the basin's kernel (Swenson & Wahr 2002).
 #![tactic(auto)]
 
-ghost use Rattle.std.specs.Prelude.{◌≡◌, ◌+◌, ◌≤◌, ◌<◌, min, length};
+ghost use Rattle.std.specs.Prelude.{◌≡◌, ◌+◌, ◌≤◌, ◌<◌, min, length, Ok};
 ghost use Rattle.std.specs.Float.{binary64, nan};
 ghost use Rattle.refusal.specs.Numbers.{value_if};
-ghost use Rattle.refusal.specs.declared.Number.TheVariants.{Value};
 ghost use Rattle.storage.specs.Triangle.{cells, table_size};
 ghost use Rattle.functional.specs.Factor.{factor_of, lacks_love};
 ghost use Rattle.rounding.specs.Sums.{running_sum, triangle_sum};
@@ -13,7 +12,7 @@ ghost use Rattle.slepian.specs.Average.{WithinMargin, average_check, degree_term
 
 use coefficients::Head;
 use functional::Functional;
-use refusal::{Answer, Number, Refusal};
+use refusal::Refusal;
 
 // The terms of degree n, which start at index `at`, added to a sum one after the other.
 fn add_degree(
@@ -34,10 +33,8 @@ fn add_degree(
 {
     let count = n + 1;
     let mut total = sum;
-    let mut m = 0;
-    while m < count {
+    for m in 0..count {
         total = total + factor * (c[at + m] * kc[at + m] + s[at + m] * ks[at + m]);
-        m = m + 1;
     }
     total
 }
@@ -68,12 +65,10 @@ fn sum_degrees(
     let radius = field.radius;
     let mut sum = 0.0;
     let mut at = 0;
-    let mut n = 0;
-    while n <= top {
+    for n in 0..top + 1 {
         let factor = functional.degree_factor(love, n, gm, radius, r);
         sum = add_degree(sum, factor, n, at, c, s, kc, ks);
-        n = n + 1;
-        at = at + n;
+        at = at + n + 1;
     }
     sum
 }
@@ -87,24 +82,18 @@ fn average_check(
     kclen: usize,
     kslen: usize,
     lacks: bool,
-) -> Answer
+) -> Result<(), Refusal>
     ensures { result ≡ average_check nmax clen slen kmax kclen kslen lacks }
 {
     if kmax > storage::MAX_DEGREE {
-        return Answer::Refused(Refusal::Size);
+        return Err(Refusal::Size);
     }
-    match storage::tables_check(nmax, clen, slen) {
-        Answer::Refused(e) => Answer::Refused(e),
-        Answer::Done => match storage::tables_check(kmax, kclen, kslen) {
-            Answer::Refused(e) => Answer::Refused(e),
-            Answer::Done => {
-                if lacks {
-                    return Answer::Refused(Refusal::Love);
-                }
-                Answer::Done
-            }
-        },
+    storage::tables_check(nmax, clen, slen)?;
+    storage::tables_check(kmax, kclen, kslen)?;
+    if lacks {
+        return Err(Refusal::Love);
     }
+    Ok(())
 }
 
 // The mean over a basin of a functional of the field at radius r, to the lower of the two degrees: the sum of factor (C C' + S S') over all
@@ -119,7 +108,7 @@ pub fn basin_average(
     functional: Functional,
     love: &[f64],
     r: f64,
-) -> Number
+) -> Result<f64, Refusal>
     ensures value { result ≡ value_if
         (average_check field.nmax (length c.now) (length s.now)
         kernel.nmax (length kc.now) (length ks.now)
@@ -134,7 +123,7 @@ pub fn basin_average(
 {
     let top = storage::smaller(field.nmax, kernel.nmax);
     let lacks = functional.lacks_love(love.len(), top);
-    match average_check(
+    average_check(
         field.nmax,
         c.len(),
         s.len(),
@@ -142,11 +131,7 @@ pub fn basin_average(
         kc.len(),
         ks.len(),
         lacks,
-    ) {
-        Answer::Refused(e) => Number::Refused(e),
-        Answer::Done => {
-            let sum = sum_degrees(top, field, c, s, kc, ks, functional, love, r);
-            Number::Value(sum / kc[0])
-        }
-    }
+    )?;
+    let sum = sum_degrees(top, field, c, s, kc, ks, functional, love, r);
+    Ok(sum / kc[0])
 }

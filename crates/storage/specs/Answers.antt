@@ -1,11 +1,9 @@
 -- What the two calls answer, and the answer on each way through their checks. Assumes nothing.
-use Rattle.std.specs.Prelude.{◌≡◌, refl, Bool, true, false, cond, not, ℕ, ◌≤◌, ◌<◌, T, ltb}
+use Rattle.std.specs.Prelude.{◌≡◌, refl, Bool, true, false, cond, not, ℕ, ◌≤◌, ◌<◌, T, ltb, Err, Ok, Result}
 use Rattle.std.proofs.Common.{arith, nltb→le}
 use borrow.Author.Tests.{lt-ltb, le-ltb}
 use Rattle.refusal.specs.declared.Refusal.{Refusal}
 use Rattle.refusal.specs.declared.Refusal.TheVariants.{Size, Place}
-use Rattle.storage.specs.declared.Index.{Index}
-use Rattle.storage.specs.declared.Index.TheVariants.{At, Refused}
 use Rattle.storage.specs.Triangle.{idx, table_size, idx-within}
 
 -- the number of entries of a table up to degree nmax, and 0 for a degree that every call refuses
@@ -21,23 +19,23 @@ unfolding size_of
 size_is nmax h = rw (le-ltb 2700 nmax h) refl
 
 -- the index of degree n and order m in a table up to degree nmax, or why there is none
-unfoldable pub place_of : ℕ → ℕ → ℕ → Index
-place_of nmax n m = cond (ltb 2700 nmax) (Refused Size) (cond (ltb nmax n) (Refused Place) (cond (ltb n m) (Refused Place) (At (idx n m))))
+unfoldable pub place_of : ℕ → ℕ → ℕ → Result ℕ Refusal
+place_of nmax n m = cond (ltb 2700 nmax) (Err Size) (cond (ltb nmax n) (Err Place) (cond (ltb n m) (Err Place) (Ok (idx n m))))
 
 module _ (nmax n m : ℕ) where
-  pub place_size : 2700 < nmax → Refused Size ≡ place_of nmax n m
+  pub place_size : 2700 < nmax → Err Size ≡ place_of nmax n m
   unfolding place_of
   place_size h = simp (lt-ltb 2700 nmax h)
 
-  pub place_degree : nmax ≤ 2700 → nmax < n → Refused Place ≡ place_of nmax n m
+  pub place_degree : nmax ≤ 2700 → nmax < n → Err Place ≡ place_of nmax n m
   unfolding place_of
   place_degree h d = simp (le-ltb 2700 nmax h, lt-ltb nmax n d)
 
-  pub place_order : nmax ≤ 2700 → n ≤ nmax → n < m → Refused Place ≡ place_of nmax n m
+  pub place_order : nmax ≤ 2700 → n ≤ nmax → n < m → Err Place ≡ place_of nmax n m
   unfolding place_of
   place_order h d o = simp (le-ltb 2700 nmax h, le-ltb nmax n d, lt-ltb n m o)
 
-  pub place_at : nmax ≤ 2700 → n ≤ nmax → m ≤ n → At (idx n m) ≡ place_of nmax n m
+  pub place_at : nmax ≤ 2700 → n ≤ nmax → m ≤ n → Ok (idx n m) ≡ place_of nmax n m
   unfolding place_of
   place_at h d o = simp (le-ltb 2700 nmax h, le-ltb nmax n d, le-ltb n m o)
 
@@ -50,14 +48,14 @@ pub record Placed (nmax n m k : ℕ) : Type 0 where
   pub within : k < table_size nmax
 
 -- an answered index has passed each test
-past : (b : Bool) (e : Refusal) (k : ℕ) (a : Index) → At k ≡ cond b (Refused e) a → T (not b) × (At k ≡ a)
+past : (b : Bool) (e : Refusal) (k : ℕ) (a : Result ℕ Refusal) → Ok k ≡ cond b (Err e) a → T (not b) × (Ok k ≡ a)
 past true e k a h = absurd (let z : ◌≡◌ {A = ℕ} 0 1 = cc in omega arith)
 past false e k a h = (tt, h)
 
-same_index : (k j : ℕ) → At k ≡ At j → k ≡ j
+same_index : (k j : ℕ) → ◌≡◌ {A = Result ℕ Refusal} (Ok k) (Ok j) → k ≡ j
 same_index k j h = cc
 
-pub placed : (nmax n m k : ℕ) → At k ≡ place_of nmax n m → Placed nmax n m k
+pub placed : (nmax n m k : ℕ) → Ok k ≡ place_of nmax n m → Placed nmax n m k
 unfolding place_of
 placed nmax n m k h =
     let p = past (ltb 2700 nmax) Size k _ h in

@@ -1,71 +1,48 @@
 -- The checks that calls on tables share, in document 01's order, over the lengths of the lists, with one law for each way through them.
 -- Assumes nothing.
-use Rattle.std.specs.Prelude.{◌≡◌, refl, Bool, true, false, not, List, ℕ, ◌≤◌, ◌<◌, T, ltb, eqb, length, get_or, Float}
+use Rattle.std.specs.Prelude.{◌≡◌, Bool, true, false, not, List, ℕ, ◌≤◌, ◌<◌, T, ltb, eqb, length, get_or, Float, Err, Ok, Result, ⊤}
 use Rattle.std.proofs.Common.{sym, ap, ◌∙◌, arith, eqb→eq}
 use Rattle.std.proofs.Math.Dec.{nltb→le}
 use Rattle.std.specs.Float.{nan}
 use borrow.Author.Tests.{lt-ltb, le-ltb, eq-eqb, ne_eqb}
-use Rattle.refusal.specs.Numbers.{answer_number, refuse, refuse_yes, refuse_no, refuse_value}
-use Rattle.refusal.specs.declared.Answer.{Answer}
-use Rattle.refusal.specs.declared.Answer.TheVariants.{Done, Refused}
-use Rattle.refusal.specs.declared.Number.{Number}
-use Rattle.refusal.specs.declared.Number.TheVariants.{Value}
-use Rattle.refusal.specs.declared.Number.TheVariants.{Refused as NoValue}
+use Rattle.refusal.specs.Numbers.{refuse, refuse_yes, refuse_no, both, ◌and_then◌}
 use Rattle.refusal.specs.declared.Refusal.{Refusal}
 use Rattle.refusal.specs.declared.Refusal.TheVariants.{Size, Length, Space}
 use Rattle.storage.specs.Answers.{size_of, place_of}
 use Rattle.storage.specs.Triangle.{table_size, table_size_most}
-use Rattle.storage.specs.declared.Index.{Index}
-use Rattle.storage.specs.declared.Index.TheVariants.{At}
-use Rattle.storage.specs.declared.Index.TheVariants.{Refused as Outside}
-
-infixr 20 ◌and_then◌
--- the checks a, and where they are passed the checks b
-abbrev pub ◌and_then◌ : Answer → Answer → Answer
-Done and_then b = b
-Refused e and_then b = Refused e
 
 -- SIZE: a degree above 2700; LENGTH: one of two tables that has not exactly its T entries
-unfoldable pub tables_check : ℕ → ℕ → ℕ → Answer
+unfoldable pub tables_check : ℕ → ℕ → ℕ → Result ⊤ Refusal
 tables_check nmax clen slen =
-    refuse (ltb 2700 nmax) Size (refuse (not (eqb clen (table_size nmax))) Length (refuse (not (eqb slen (table_size nmax))) Length Done))
+    refuse (ltb 2700 nmax) Size (refuse (not (eqb clen (table_size nmax))) Length (refuse (not (eqb slen (table_size nmax))) Length (Ok tt)))
 
 -- SPACE: two lists, one of them shorter than size
-unfoldable pub space_check : ℕ → ℕ → ℕ → Answer
-space_check size a b = refuse (ltb a size) Space (refuse (ltb b size) Space Done)
+unfoldable pub space_check : ℕ → ℕ → ℕ → Result ⊤ Refusal
+space_check size a b = refuse (ltb a size) Space (refuse (ltb b size) Space (Ok tt))
 
 -- SIZE, and SPACE for two tables
-unfoldable pub room_check : ℕ → ℕ → ℕ → Answer
+unfoldable pub room_check : ℕ → ℕ → ℕ → Result ⊤ Refusal
 room_check nmax a b = refuse (ltb 2700 nmax) Size (space_check (table_size nmax) a b)
 
 -- two tables that are read, and SPACE for two tables up to degree top
-unfoldable pub outputs_check : ℕ → ℕ → ℕ → ℕ → ℕ → ℕ → Answer
+unfoldable pub outputs_check : ℕ → ℕ → ℕ → ℕ → ℕ → ℕ → Result ⊤ Refusal
 outputs_check nmax clen slen top a b = tables_check nmax clen slen and_then space_check (size_of top) a b
 
--- PLACE, as an index tells it
-abbrev pub place_check : Index → Answer
-place_check (At k) = Done
-place_check (Outside e) = Refused e
-
--- document 01's number of it: 0 where there is an index
-abbrev pub index_number : Index → ℕ
-index_number i = answer_number (place_check i)
-
 -- what stands at an index, if there is one
-abbrev pub value_at : List Float → Index → Number
-value_at list (At k) = Value (get_or list k nan)
-value_at list (Outside e) = NoValue e
+abbrev pub value_at : List Float → Result ℕ Refusal → Result Float Refusal
+value_at list (Ok k) = Ok (get_or list k nan)
+value_at list (Err e) = Err e
 
 -- one entry of a table: SIZE, LENGTH and PLACE, else the entry
-unfoldable pub entry_answer : ℕ → List Float → ℕ → ℕ → Number
+unfoldable pub entry_answer : ℕ → List Float → ℕ → ℕ → Result Float Refusal
 entry_answer nmax list n m =
-    refuse_value (ltb 2700 nmax) Size (refuse_value (not (eqb (length list) (table_size nmax))) Length (value_at list (place_of nmax n m)))
+    refuse (ltb 2700 nmax) Size (refuse (not (eqb (length list) (table_size nmax))) Length (value_at list (place_of nmax n m)))
 
 -- ---- one check: it stops the call, or what comes after it answers
-pub stop : {reason : Bool} (e : Refusal) (other : Answer) → reason ≡ true → Refused e ≡ refuse reason e other
+pub stop : {reason : Bool} (e : Refusal) (other : Result ⊤ Refusal) → reason ≡ true → Err e ≡ refuse reason e other
 stop e other h = sym (refuse_yes e other h)
 
-pub pass : {reason : Bool} (e : Refusal) {other x : Answer} → reason ≡ false → x ≡ other → x ≡ refuse reason e other
+pub pass : {reason : Bool} (e : Refusal) {other x : Result ⊤ Refusal} → reason ≡ false → x ≡ other → x ≡ refuse reason e other
 pass e {other} h g = g ∙ sym (refuse_no e other h)
 
 pub different : {a b : ℕ} → (a ≡ b → ⊥) → not (eqb a b) ≡ true
@@ -75,14 +52,10 @@ pub equal : {a b : ℕ} → a ≡ b → not (eqb a b) ≡ false
 equal {a} {b} h = ap not (eq-eqb a b h)
 
 -- ---- one law for each way through the checks
-pub past : (reason : Bool) (e : Refusal) (a : Answer) → Done ≡ refuse reason e a → T (not reason) × (Done ≡ a)
+pub past : (reason : Bool) (e : Refusal) (a : Result ⊤ Refusal) → Ok tt ≡ refuse reason e a → T (not reason) × (Ok tt ≡ a)
 unfolding refuse
 past true e a h = absurd (let z : ◌≡◌ {A = ℕ} 0 1 = cc in omega arith)
 past false e a h = (tt, h)
-
-pub both : (a b : Answer) → Done ≡ a and_then b → (Done ≡ a) × (Done ≡ b)
-both Done b h = (refl, h)
-both (Refused e) b h = absurd (let z : ◌≡◌ {A = ℕ} 0 1 = cc in omega arith)
 
 pub same : (a b : ℕ) → T (not (not (eqb a b))) → a ≡ b
 same a b h = eqb→eq a b (go (eqb a b) h)
@@ -90,13 +63,6 @@ same a b h = eqb→eq a b (go (eqb a b) h)
     go : (x : Bool) → T (not (not x)) → T x
     go true h = tt
     go false h = h
-
--- a refusal of the first checks stands; where they are passed, what the others say does
-pub refused_then : {a : Answer} (e : Refusal) (b : Answer) → Refused e ≡ a → Refused e ≡ a and_then b
-refused_then e b h = ap (λ (x : Answer). x and_then b) h
-
-pub done_then : {a b r : Answer} → Done ≡ a → r ≡ b → r ≡ a and_then b
-done_then {a} {b} h g = g ∙ ap (λ (x : Answer). x and_then b) h
 
 -- what passed checks tell: records, whose fields `omega` finds
 pub record Tables (nmax clen slen : ℕ) : Type 0 where
@@ -106,23 +72,23 @@ pub record Tables (nmax clen slen : ℕ) : Type 0 where
   pub small : table_size nmax ≤ 3649051
 
 module _ (nmax clen slen : ℕ) where
-  pub tables_size : 2700 < nmax → Refused Size ≡ tables_check nmax clen slen
+  pub tables_size : 2700 < nmax → Err Size ≡ tables_check nmax clen slen
   unfolding tables_check refuse
   tables_size h = simp (lt-ltb 2700 nmax h)
 
-  pub tables_c : nmax ≤ 2700 → (clen ≡ table_size nmax → ⊥) → Refused Length ≡ tables_check nmax clen slen
+  pub tables_c : nmax ≤ 2700 → (clen ≡ table_size nmax → ⊥) → Err Length ≡ tables_check nmax clen slen
   unfolding tables_check refuse
   tables_c h d = simp (le-ltb 2700 nmax h, ne_eqb clen (table_size nmax) d)
 
-  pub tables_s : nmax ≤ 2700 → clen ≡ table_size nmax → (slen ≡ table_size nmax → ⊥) → Refused Length ≡ tables_check nmax clen slen
+  pub tables_s : nmax ≤ 2700 → clen ≡ table_size nmax → (slen ≡ table_size nmax → ⊥) → Err Length ≡ tables_check nmax clen slen
   unfolding tables_check refuse
   tables_s h e d = simp (le-ltb 2700 nmax h, eq-eqb clen (table_size nmax) e, ne_eqb slen (table_size nmax) d)
 
-  pub tables_done : nmax ≤ 2700 → clen ≡ table_size nmax → slen ≡ table_size nmax → Done ≡ tables_check nmax clen slen
+  pub tables_done : nmax ≤ 2700 → clen ≡ table_size nmax → slen ≡ table_size nmax → Ok tt ≡ tables_check nmax clen slen
   unfolding tables_check refuse
   tables_done h e d = simp (le-ltb 2700 nmax h, eq-eqb clen (table_size nmax) e, eq-eqb slen (table_size nmax) d)
 
-  pub tables_passed : Done ≡ tables_check nmax clen slen → Tables nmax clen slen
+  pub tables_passed : Ok tt ≡ tables_check nmax clen slen → Tables nmax clen slen
   unfolding tables_check
   tables_passed h =
       let (p, g) = past (ltb 2700 nmax) Size _ h in
@@ -131,7 +97,7 @@ module _ (nmax clen slen : ℕ) where
       let t = nltb→le 2700 nmax p in
       record { top = t; c = same clen (table_size nmax) q; s = same slen (table_size nmax) r; small = table_size_most nmax t }
 
-space_passed : (size a b : ℕ) → Done ≡ space_check size a b → (size ≤ a) × (size ≤ b)
+space_passed : (size a b : ℕ) → Ok tt ≡ space_check size a b → (size ≤ a) × (size ≤ b)
 unfolding space_check
 space_passed size a b h =
     let (p, g) = past (ltb a size) Space _ h in
@@ -143,7 +109,7 @@ pub record Outputs (nmax clen slen top a b : ℕ) : Type 0 where
   pub first : size_of top ≤ a
   pub second : size_of top ≤ b
 
-pub outputs_passed : (nmax clen slen top a b : ℕ) → Done ≡ outputs_check nmax clen slen top a b → Outputs nmax clen slen top a b
+pub outputs_passed : (nmax clen slen top a b : ℕ) → Ok tt ≡ outputs_check nmax clen slen top a b → Outputs nmax clen slen top a b
 unfolding outputs_check
 outputs_passed nmax clen slen top a b h =
     let (t, g) = both (tables_check nmax clen slen) _ h in
@@ -151,20 +117,20 @@ outputs_passed nmax clen slen top a b h =
     record { tables = tables_passed nmax clen slen t; first = p; second = q }
 
 module _ (size a b : ℕ) where
-  pub space_first : a < size → Refused Space ≡ space_check size a b
+  pub space_first : a < size → Err Space ≡ space_check size a b
   unfolding space_check refuse
   space_first h = simp (lt-ltb a size h)
 
-  pub space_second : size ≤ a → b < size → Refused Space ≡ space_check size a b
+  pub space_second : size ≤ a → b < size → Err Space ≡ space_check size a b
   unfolding space_check refuse
   space_second h g = simp (le-ltb a size h, lt-ltb b size g)
 
-  pub space_done : size ≤ a → size ≤ b → Done ≡ space_check size a b
+  pub space_done : size ≤ a → size ≤ b → Ok tt ≡ space_check size a b
   unfolding space_check refuse
   space_done h g = simp (le-ltb a size h, le-ltb b size g)
 
 module _ (nmax a b : ℕ) where
-  pub room_size : 2700 < nmax → Refused Size ≡ room_check nmax a b
+  pub room_size : 2700 < nmax → Err Size ≡ room_check nmax a b
   unfolding room_check refuse
   room_size h = simp (lt-ltb 2700 nmax h)
 
@@ -177,7 +143,7 @@ pub record Room (nmax a b : ℕ) : Type 0 where
   pub first : table_size nmax ≤ a
   pub second : table_size nmax ≤ b
 
-pub room_passed : (nmax a b : ℕ) → Done ≡ room_check nmax a b → Room nmax a b
+pub room_passed : (nmax a b : ℕ) → Ok tt ≡ room_check nmax a b → Room nmax a b
 unfolding room_check
 room_passed nmax a b h =
     let (t, g) = past (ltb 2700 nmax) Size _ h in
@@ -185,14 +151,14 @@ room_passed nmax a b h =
     record { top = nltb→le 2700 nmax t; first = p; second = q }
 
 module _ (nmax : ℕ) (list : List Float) (n m : ℕ) where
-  pub entry_size : 2700 < nmax → NoValue Size ≡ entry_answer nmax list n m
-  unfolding entry_answer refuse_value
+  pub entry_size : 2700 < nmax → Err Size ≡ entry_answer nmax list n m
+  unfolding entry_answer refuse
   entry_size h = simp (lt-ltb 2700 nmax h)
 
-  pub entry_length : nmax ≤ 2700 → (length list ≡ table_size nmax → ⊥) → NoValue Length ≡ entry_answer nmax list n m
-  unfolding entry_answer refuse_value
+  pub entry_length : nmax ≤ 2700 → (length list ≡ table_size nmax → ⊥) → Err Length ≡ entry_answer nmax list n m
+  unfolding entry_answer refuse
   entry_length h d = simp (le-ltb 2700 nmax h, ne_eqb (length list) (table_size nmax) d)
 
-  pub entry_at : {i : Index} → nmax ≤ 2700 → length list ≡ table_size nmax → i ≡ place_of nmax n m → value_at list i ≡ entry_answer nmax list n m
-  unfolding entry_answer refuse_value
+  pub entry_at : {i : Result ℕ Refusal} → nmax ≤ 2700 → length list ≡ table_size nmax → i ≡ place_of nmax n m → value_at list i ≡ entry_answer nmax list n m
+  unfolding entry_answer refuse
   entry_at h e g = simp (le-ltb 2700 nmax h, eq-eqb (length list) (table_size nmax) e) (ap (value_at list) g)

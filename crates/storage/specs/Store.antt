@@ -38,7 +38,7 @@ module _ {A : Type 0} where
       let e : at + 1 + length us ≡ at + suc (length us) = omega arith in
       store-append (at + 1) us vs (set d at u) ∙ ap (λ (i : ℕ). store i vs (store (at + 1) us (set d at u))) e
 
-  store_sets : (at : ℕ) (vs d : List A) → store at vs d ≡ sets d at vs
+  pub store_sets : (at : ℕ) (vs d : List A) → store at vs d ≡ sets d at vs
   unfolding store
   store_sets at [] d = refl
   store_sets at (v ∷ vs) d = store_sets (at + 1) vs (set d at v) ∙ ap (λ (i : ℕ). sets (set d at v) i vs) (add-one at)

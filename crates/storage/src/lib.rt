@@ -6,29 +6,13 @@ ghost use Rattle.storage.specs.Answers.{size_of, place_of};
 ghost use Rattle.storage.specs.Elements.{zero_at};
 ghost use Rattle.storage.specs.Filled.{Filled};
 ghost use Rattle.storage.specs.Lanes.{lane};
-ghost use Rattle.storage.specs.Checks.{index_number, space_check, room_check, tables_check, outputs_check, entry_answer};
+ghost use Rattle.storage.specs.Checks.{space_check, room_check, tables_check, outputs_check, entry_answer};
+ghost use Rattle.refusal.specs.Numbers.{result_number};
 
-use refusal::{Answer, Number, Refusal};
+use refusal::Refusal;
 
 // The highest degree of a table.
 pub const MAX_DEGREE: usize = 2700;
-
-// The index of an entry, or why there is none.
-#[derive(Clone, Copy)]
-pub enum Index {
-    At(usize),
-    Refused(Refusal),
-}
-
-// 0 where there is an index, else the number of the refusal.
-pub fn index_number(i: Index) -> u32
-    ensures { result ≡ index_number i }
-{
-    match i {
-        Index::At(_) => 0,
-        Index::Refused(e) => refusal::refusal_number(e),
-    }
-}
 
 // The number of entries of a table up to degree nmax: (nmax + 1)(nmax + 2) / 2, and 0 above the highest degree.
 pub fn table_size(nmax: usize) -> usize
@@ -41,35 +25,33 @@ pub fn table_size(nmax: usize) -> usize
 }
 
 // The index of degree n and order m in a table up to degree nmax: n(n + 1) / 2 + m, where m <= n <= nmax.
-pub fn place(nmax: usize, n: usize, m: usize) -> Index
+pub fn place(nmax: usize, n: usize, m: usize) -> Result<usize, Refusal>
     ensures { result ≡ place_of nmax n m }
 {
     if nmax > MAX_DEGREE {
-        return Index::Refused(Refusal::Size);
+        return Err(Refusal::Size);
     }
     if n > nmax {
-        return Index::Refused(Refusal::Place);
+        return Err(Refusal::Place);
     }
     if m > n {
-        return Index::Refused(Refusal::Place);
+        return Err(Refusal::Place);
     }
-    Index::At(n * (n + 1) / 2 + m)
+    Ok(n * (n + 1) / 2 + m)
 }
 
 // The entry of degree n and order m of a table up to degree nmax.
-pub fn entry(nmax: usize, table: &[f64], n: usize, m: usize) -> Number
+pub fn entry(nmax: usize, table: &[f64], n: usize, m: usize) -> Result<f64, Refusal>
     ensures { result ≡ entry_answer nmax table.now n m }
 {
     if nmax > MAX_DEGREE {
-        return Number::Refused(Refusal::Size);
+        return Err(Refusal::Size);
     }
     if table.len() != table_size(nmax) {
-        return Number::Refused(Refusal::Length);
+        return Err(Refusal::Length);
     }
-    match place(nmax, n, m) {
-        Index::Refused(e) => Number::Refused(e),
-        Index::At(k) => Number::Value(table[k]),
-    }
+    let k = place(nmax, n, m)?;
+    Ok(table[k])
 }
 
 // Eight numbers that are worked out side by side.
@@ -105,55 +87,54 @@ pub fn clear(size: usize, list: &mut [f64])
     requires { size ≤ length list.old }
     ensures { Filled 0 zero_at size list.old list.new }
 {
-    let mut i = 0;
-    while i < size {
+    for i in 0..size {
         list[i] = 0.0;
-        i = i + 1;
     }
 }
 
 // ---- the checks, over the lengths of the lists
 // SPACE: two lists, one of them shorter than size.
-fn space_check(size: usize, a: usize, b: usize) -> Answer
+fn space_check(size: usize, a: usize, b: usize) -> Result<(), Refusal>
     ensures { result ≡ space_check size a b }
 {
     if a < size {
-        return Answer::Refused(Refusal::Space);
+        return Err(Refusal::Space);
     }
     if b < size {
-        return Answer::Refused(Refusal::Space);
+        return Err(Refusal::Space);
     }
-    Answer::Done
+    Ok(())
 }
 
 // SIZE, and SPACE for two tables.
-pub fn room_check(nmax: usize, a: usize, b: usize) -> Answer
+pub fn room_check(nmax: usize, a: usize, b: usize) -> Result<(), Refusal>
     ensures { result ≡ room_check nmax a b }
 {
     if nmax > MAX_DEGREE {
-        return Answer::Refused(Refusal::Size);
+        return Err(Refusal::Size);
     }
     space_check(table_size(nmax), a, b)
 }
 
 // SIZE, and LENGTH of the two tables.
-pub fn tables_check(nmax: usize, clen: usize, slen: usize) -> Answer
+pub fn tables_check(nmax: usize, clen: usize, slen: usize) -> Result<(), Refusal>
     ensures { result ≡ tables_check nmax clen slen }
 {
     if nmax > MAX_DEGREE {
-        return Answer::Refused(Refusal::Size);
+        return Err(Refusal::Size);
     }
     let size = table_size(nmax);
     if clen != size {
-        return Answer::Refused(Refusal::Length);
+        return Err(Refusal::Length);
     }
     if slen != size {
-        return Answer::Refused(Refusal::Length);
+        return Err(Refusal::Length);
     }
-    Answer::Done
+    Ok(())
 }
 
 // The same, and SPACE for two tables up to degree top.
+#[tactic(auto, unfolding(crate::specs::Checks::outputs_check))]
 pub fn outputs_check(
     nmax: usize,
     clen: usize,
@@ -161,13 +142,11 @@ pub fn outputs_check(
     top: usize,
     a: usize,
     b: usize,
-) -> Answer
+) -> Result<(), Refusal>
     ensures { result ≡ outputs_check nmax clen slen top a b }
 {
-    match tables_check(nmax, clen, slen) {
-        Answer::Refused(e) => Answer::Refused(e),
-        Answer::Done => space_check(table_size(top), a, b),
-    }
+    tables_check(nmax, clen, slen)?;
+    space_check(table_size(top), a, b)
 }
 
 // The smaller of two degrees.

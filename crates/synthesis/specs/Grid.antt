@@ -1,14 +1,13 @@
 -- A functional of a field on a grid: the value at each row and longitude, and the checks of the call. Definitions only.
-use Rattle.std.specs.Prelude.{Bool, not, List, ℕ, ◌+◌, ◌*◌, ltb, eqb, Float}
+use Rattle.std.specs.Prelude.{Bool, not, List, ℕ, ◌+◌, ◌*◌, ltb, eqb, Float, Ok, Result, ⊤}
 use Rattle.std.specs.Float.{nan}
-use Rattle.refusal.specs.Numbers.{refuse}
-use Rattle.refusal.specs.declared.Answer.{Answer}
-use Rattle.refusal.specs.declared.Answer.TheVariants.{Done}
+use Rattle.refusal.specs.Numbers.{refuse, ◌and_then◌}
 use Rattle.refusal.specs.declared.Refusal.TheVariants.{Size, Length, Love, Space}
-use Rattle.storage.specs.Checks.{◌and_then◌, tables_check}
+use Rattle.storage.specs.Checks.{tables_check}
 use Rattle.storage.specs.Triangle.{table_size, cells}
 use Rattle.legendre.specs.Directions.{legendre_row, cosines, sines}
 use Rattle.rounding.specs.Margins.{grid_value, TableAtMostOne, LineAtMostOne}
+use Rattle.refusal.specs.declared.Refusal.{Refusal}
 
 -- the value at row i and longitude j
 unfoldable pub grid_cell : (factor : ℕ → Float) (lats c s trig : List Float) (N i j : ℕ) → Float
@@ -28,11 +27,11 @@ work_size N = 3 * table_size N + 3 * (N + 1)
 
 -- SIZE of degree, rows and longitudes; LENGTH of c, s, the pairs of the latitudes, the cosines and sines; LOVE; SPACE of the working list and
 -- the output
-unfoldable pub grid_check : (nmax clen slen rows lats longitudes trig : ℕ) → Bool → (work out : ℕ) → Answer
+unfoldable pub grid_check : (nmax clen slen rows lats longitudes trig : ℕ) → Bool → (work out : ℕ) → Result ⊤ Refusal
 grid_check nmax clen slen rows lats longitudes trig lacks work out =
     refuse (ltb 65535 rows) Size
     (refuse (ltb 65535 longitudes) Size
     (tables_check nmax clen slen
     and_then refuse (not (eqb lats (rows + rows))) Length
     (refuse (not (eqb trig (longitudes * (nmax + nmax + 2)))) Length
-    (refuse lacks Love (refuse (ltb work (work_size nmax)) Space (refuse (ltb out (rows * longitudes)) Space Done))))))
+    (refuse lacks Love (refuse (ltb work (work_size nmax)) Space (refuse (ltb out (rows * longitudes)) Space (Ok tt)))))))

@@ -1,5 +1,5 @@
 -- What `grid` promises of its answer, its output and its working list, and demand 3 for every value. Assumes nothing.
-use Rattle.std.specs.Prelude.{◌≡◌, Bool, List, ℕ, ◌+◌, ◌*◌, ◌≤◌, ◌<◌, length, drop, Float}
+use Rattle.std.specs.Prelude.{◌≡◌, Bool, List, ℕ, ◌+◌, ◌*◌, ◌≤◌, ◌<◌, length, drop, Float, Ok, Result, ⊤}
 use Rattle.std.proofs.Math.Path.{refl, ap, subst}
 use Rattle.std.proofs.Common.{sym, ◌∙◌, zero-add, arith}
 use Rattle.std.proofs.Math.Nat.{mul-le-mul_right}
@@ -9,8 +9,6 @@ use Rattle.std.specs.Float.Ieee.{nan, binary64, fits}
 use Rattle.std.specs.Float.Ieee.Fits.{mul-fits}
 use Rattle.std.specs.Float.Ieee.Scale.{finite}
 use Rattle.refusal.specs.Numbers.{after, behind}
-use Rattle.refusal.specs.declared.Answer.{Answer}
-use Rattle.refusal.specs.declared.Answer.TheVariants.{Done}
 use Rattle.storage.specs.Elements.{from, from_zero}
 use Rattle.storage.specs.Fill.{fill, length-fill, drop-fill}
 use Rattle.storage.specs.Filled.{Filled, filled, filled_in, filled_before}
@@ -24,6 +22,7 @@ use Rattle.recursion.specs.Tables.{with_tables}
 use Rattle.synthesis.specs.Grid.{grid_cell, SizesAtMostOne, work_size, grid_check}
 use Rattle.synthesis.specs.Rows.{rows_value, rows_same, rows_are}
 use Rattle.synthesis.specs.Checks.{accepted}
+use Rattle.refusal.specs.declared.Refusal.{Refusal}
 
 -- every number is a double
 abbrev pub Doubles : List Float → Type 0
@@ -63,13 +62,13 @@ module _ (factor : ℕ → Float) (lats c s trig : List Float) (N rows L : ℕ) 
       cell i j = rows_are factor lats c s trig N i j
 
   -- demand 3, for every row and longitude
-  abbrev pub Within : Answer → List Float → Type 0
+  abbrev pub Within : Result ⊤ Refusal → List Float → Type 0
   Within x o' =
-      (i j : ℕ) → x ≡ Done → i < rows → j < L → T (finite (get_or o' (i * L + j) nan))
+      (i j : ℕ) → x ≡ Ok tt → i < rows → j < L → T (finite (get_or o' (i * L + j) nan))
       → SizesAtMostOne N (cells c nan) (cells s nan) (cosines trig N j) (sines trig N j)
       → GridWithin (legendre_row lats i) factor (cells c nan) (cells s nan) (cosines trig N j) (sines trig N j) N (get_or o' (i * L + j) nan)
 
-  pub within : {x : Answer} {o' : List Float} (lacks : Bool) (work : ℕ) (o : List Float) → LineFits factor → Doubles c → Doubles s → Doubles trig
+  pub within : {x : Result ⊤ Refusal} {o' : List Float} (lacks : Bool) (work : ℕ) (o : List Float) → LineFits factor → Doubles c → Doubles s → Doubles trig
       → x ≡ grid_check N (length c) (length s) rows (length lats) L (length trig) lacks work (length o)
       → o' ≡ after x (fill 0 (by_rows (grid_cell factor lats c s trig N) L) (rows * L) o) o → Within x o'
   unfolding grid_cell legendre_row p_cell cells cosines sines
@@ -77,7 +76,7 @@ module _ (factor : ℕ → Float) (lats c s trig : List Float) (N rows L : ℕ) 
       let k = accepted N (length c) (length s) rows (length lats) L (length trig) lacks work (length o) (sym d ∙ e) in
       let F = grid_cell factor lats c s trig N in
       let all = fill 0 (by_rows F L) (rows * L) o in
-      let full = filled 0 (by_rows F L) (rows * L) o (q ∙ ap (λ (y : Answer). after y all o) d) in
+      let full = filled 0 (by_rows F L) (rows * L) o (q ∙ ap (λ (y : Result ⊤ Refusal). after y all o) d) in
       let up = mul-le-mul_right L hi in
       let v : get_or o' (i * L + j) nan ≡ F i j = by_rows_at F L i j nan full hj (omega arith) k.room_out in
       subst (λ (y : Float). GridWithin (legendre_row lats i) factor (cells c nan) (cells s nan) (cosines trig N j) (sines trig N j) N y) (sym v)
@@ -86,7 +85,7 @@ module _ (factor : ℕ → Float) (lats c s trig : List Float) (N rows L : ℕ) 
       small.of_c small.of_s small.of_cos small.of_sin (subst (λ (y : Float). T (finite y)) v t))
 
   -- the five promises, from the answer and what stands in the two lists
-  pub promised : {x : Answer} {o' : List Float} (lacks found : Bool) (w w' o : List Float) → LineFits factor → Doubles c → Doubles s → Doubles trig
+  pub promised : {x : Result ⊤ Refusal} {o' : List Float} (lacks found : Bool) (w w' o : List Float) → LineFits factor → Doubles c → Doubles s → Doubles trig
       → x ≡ grid_check N (length c) (length s) rows (length lats) L (length trig) found (length w) (length o) → found ≡ lacks
       → o' ≡ after x (fill 0 (by_rows (grid_cell factor lats c s trig N) L) (rows * L) o) o → behind x (work_size N) w' ≡ behind x (work_size N) w → length w' ≡ length w
       → (x ≡ grid_check N (length c) (length s) rows (length lats) L (length trig) lacks (length w) (length o))

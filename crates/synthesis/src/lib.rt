@@ -4,11 +4,10 @@
 mod rows;
 mod workspace;
 
-ghost use Rattle.std.specs.Prelude.{◌≡◌, Bool, ℕ, ◌+◌, ◌*◌, ◌<◌, T, length, get_or};
+ghost use Rattle.std.specs.Prelude.{◌≡◌, Bool, ℕ, ◌+◌, ◌*◌, ◌<◌, T, length, get_or, Ok};
 ghost use Rattle.std.specs.Float.{nan};
 ghost use Rattle.std.specs.Float.Ieee.Scale.{finite};
 ghost use Rattle.refusal.specs.Numbers.{after, behind};
-ghost use Rattle.refusal.specs.declared.Answer.TheVariants.{Done};
 ghost use Rattle.storage.specs.Fill.{fill};
 ghost use Rattle.storage.specs.Rectangle.{by_rows};
 ghost use Rattle.storage.specs.Triangle.{cells};
@@ -19,7 +18,7 @@ ghost use Rattle.synthesis.specs.Grid.{grid_cell, SizesAtMostOne, work_size, gri
 
 use coefficients::Head;
 use functional::Functional;
-use refusal::{Answer, Refusal};
+use refusal::Refusal;
 
 // The most rows of a grid, and the most longitudes.
 pub const MAX_LINES: usize = 65535;
@@ -36,36 +35,32 @@ fn grid_check(
     lacks: bool,
     work: usize,
     out: usize,
-) -> Answer
+) -> Result<(), Refusal>
     ensures { result ≡ grid_check nmax clen slen rows lats longitudes trig lacks work out }
 {
     if rows > MAX_LINES {
-        return Answer::Refused(Refusal::Size);
+        return Err(Refusal::Size);
     }
     if longitudes > MAX_LINES {
-        return Answer::Refused(Refusal::Size);
+        return Err(Refusal::Size);
     }
-    match storage::tables_check(nmax, clen, slen) {
-        Answer::Refused(e) => Answer::Refused(e),
-        Answer::Done => {
-            if lats != rows + rows {
-                return Answer::Refused(Refusal::Length);
-            }
-            if trig != longitudes * (nmax + nmax + 2) {
-                return Answer::Refused(Refusal::Length);
-            }
-            if lacks {
-                return Answer::Refused(Refusal::Love);
-            }
-            if work < 3 * clen + 3 * (nmax + 1) {
-                return Answer::Refused(Refusal::Space);
-            }
-            if out < rows * longitudes {
-                return Answer::Refused(Refusal::Space);
-            }
-            Answer::Done
-        }
+    storage::tables_check(nmax, clen, slen)?;
+    if lats != rows + rows {
+        return Err(Refusal::Length);
     }
+    if trig != longitudes * (nmax + nmax + 2) {
+        return Err(Refusal::Length);
+    }
+    if lacks {
+        return Err(Refusal::Love);
+    }
+    if work < 3 * clen + 3 * (nmax + 1) {
+        return Err(Refusal::Space);
+    }
+    if out < rows * longitudes {
+        return Err(Refusal::Space);
+    }
+    Ok(())
 }
 
 // A functional of the field at radius r, at each longitude of each row, row after row. The latitudes are pairs of a sine and a cosine; `trig` has the
@@ -83,7 +78,7 @@ pub fn grid(
     trig: &[f64],
     work: &mut [f64],
     out: &mut [f64],
-) -> Answer
+) -> Result<(), Refusal>
     ensures value { result ≡ grid_check head.nmax (length c.now) (length s.now) rows (length latitudes.now)
         longitudes (length trig.now) (lacks_love functional (length love.now) head.nmax)
         (length work.old) (length out.old) }
@@ -97,7 +92,7 @@ pub fn grid(
         out.old }
     ensures work_unchanged { behind result (work_size head.nmax) work.new ≡ behind result (work_size head.nmax) work.old }
     ensures work_len_unchanged { length work.new ≡ length work.old }
-    ensures by_index { (i j : ℕ) → result ≡ Done → i < rows → j < longitudes → T (finite (get_or out.new (i * longitudes + j) nan))
+    ensures by_index { (i j : ℕ) → result ≡ Ok tt → i < rows → j < longitudes → T (finite (get_or out.new (i * longitudes + j) nan))
         → SizesAtMostOne head.nmax (cells c.now nan) (cells s.now nan)
         (cosines trig.now head.nmax j) (sines trig.now head.nmax j)
         → GridWithin (legendre_row latitudes.now i) (factor_of functional love.now head.gm head.radius r)
@@ -106,7 +101,7 @@ pub fn grid(
         (get_or out.new (i * longitudes + j) nan) }
 {
     let lacks = functional.lacks_love(love.len(), head.nmax);
-    match grid_check(
+    grid_check(
         head.nmax,
         c.len(),
         s.len(),
@@ -117,13 +112,9 @@ pub fn grid(
         lacks,
         work.len(),
         out.len(),
-    ) {
-        Answer::Refused(e) => Answer::Refused(e),
-        Answer::Done => {
-            workspace::compute(
-                head, c, s, functional, love, r, rows, latitudes, longitudes, trig, work, out,
-            );
-            Answer::Done
-        }
-    }
+    )?;
+    workspace::compute(
+        head, c, s, functional, love, r, rows, latitudes, longitudes, trig, work, out,
+    );
+    Ok(())
 }

@@ -82,15 +82,13 @@ pub fn grid_rows(
         longitudes)
         (rows * longitudes) out.old out.new }
 {
-    let mut i = 0;
     let mut at = 0;
-    while i < rows {
+    for i in 0..rows {
         let latitude = legendre::directions::latitude_of(i, latitudes);
         grid_row(
             nmax, latitude, longitudes, at, a, b, c, s, trig, factors, sectorals, r, even, odd, p,
             x, y, out,
         );
-        i = i + 1;
         at = at + longitudes;
     }
 }

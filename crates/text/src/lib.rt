@@ -11,15 +11,14 @@ pub fn write_bytes(out: &mut [u8], at: usize, bytes: &[u8]) -> usize
     ensures value { result ≡ at + length bytes.now }
     ensures out_after { out.new ≡ store at bytes.now out.old }
 {
-    let mut i = 0;
-    while i < bytes.len() {
+    for i in 0..bytes.len() {
         out[at + i] = bytes[i];
-        i += 1;
     }
-    at + i
+    at + bytes.len()
 }
 
 // Stores the decimal digits of n from `at` on, and answers where they end.
+#[tactic(auto, using(crate::specs::Digits::length_one, crate::specs::Digits::length_more))]
 pub fn write_decimal(out: &mut [u8], at: usize, n: usize) -> usize
     requires { at + length (decimal_digits n) ≤ length out.old }
     ensures value { result ≡ at + length (decimal_digits n) }

@@ -1,4 +1,5 @@
 -- What the report is on each way through the code. Assumes nothing.
+use Rattle.std.specs.Prelude.{Err, Ok, Result}
 use mathlib.Core.Path.{◌≡◌, refl, sym, ap, ◌∙◌}
 use Prim.Native.Nat.{ℕ, ◌+◌, ◌≤◌, ◌<◌}
 use native.Mathlib.Omega.{arith}
@@ -6,7 +7,7 @@ use mathlib.Core.List.{List, [], ◌∷◌}
 use lib.ListN.{length, take, length-append}
 use lib.Ieee.{Float}
 use borrow.Author.Tests.{lt-ltb, le-ltb}
-use Rattle.refusal.specs.Numbers.{after}
+use Rattle.refusal.specs.Numbers.{after, outcome, refuse}
 use Rattle.refusal.specs.declared.Refusal.{Refusal}
 use Rattle.refusal.specs.declared.Refusal.TheVariants.{Size}
 use Rattle.storage.specs.Answers.{size_of, size_is}
@@ -16,10 +17,8 @@ use Rattle.storage.specs.Triangle.{table_size}
 use Rattle.text.specs.Stored.{Prefix, prefix-stored}
 use Rattle.coefficients.specs.Values.{variance_of}
 use Rattle.model_file.specs.declared.FileHead.{FileHead}
-use Rattle.model_file.specs.declared.Reading.{Reading}
-use Rattle.model_file.specs.declared.Reading.TheVariants.{Model, Refused}
-use Rattle.model_file.specs.Format.{refuse_reading, head_of, Parsed, model, fault, parse}
-use Rattle.model_file.specs.Answers.{read_outcome, read_answer, c_of, s_of}
+use Rattle.model_file.specs.Format.{head_of, Parsed, model, fault, parse}
+use Rattle.model_file.specs.Answers.{read_answer, c_of, s_of}
 use Rattle.model_file.specs.RoundTrip.{accepted, parse_table}
 use Rattle.variance_report.specs.Report.{numbers_of, lines_of, title_text, refused_text, model_text, parsed_text, report_of}
 use Rattle.variance_report.specs.ReportFront.{pairs_most}
@@ -63,17 +62,17 @@ pub record Told (b d : List ℕ) (r : ℕ) (d' : List ℕ) : Type 0 where
 told : (b d d' vs : List ℕ) (r : ℕ) → report_of b ≡ vs → r ≡ length vs → d' ≡ store 0 vs d → length vs ≤ length d → Told b d r d'
 told b d d' vs r e n p h = record { end = rw e n; text = rw e p; prefix = prefix-stored vs d d' r p n h }
 
-module _ (b d d' : List ℕ) (room : 1756 ≤ length d) (r : Reading) (er : r ≡ head_of b) where
+module _ (b d d' : List ℕ) (room : 1756 ≤ length d) (r : Result FileHead Refusal) (er : r ≡ head_of b) where
   refused : (e : Refusal) (n : ℕ) → report_of b ≡ refused_text e → n ≡ 10 → d' ≡ store 0 (refused_text e) d → Told b d n d'
   refused e n i en q = told b d d' (refused_text e) n i (en ∙ sym (length_refused e)) q (omega (arith, length_refused e))
 
   -- refused by its head
-  pub told_head : (e : Refusal) (n : ℕ) → r ≡ Refused e → n ≡ 10 → d' ≡ store 0 (refused_text e) d → Told b d n d'
+  pub told_head : (e : Refusal) (n : ℕ) → r ≡ Err e → n ≡ 10 → d' ≡ store 0 (refused_text e) d → Told b d n d'
   unfolding report_of
-  told_head e n p en q = let i : head_of b ≡ Refused e = cc in refused e n (rw i refl) en q
+  told_head e n p en q = let i : head_of b ≡ Err e = cc in refused e n (rw i refl) en q
 
-  module _ (h : FileHead) (eh : r ≡ Model h) where
-    head_is : head_of b ≡ Model h
+  module _ (h : FileHead) (eh : r ≡ Ok h) where
+    head_is : head_of b ≡ Ok h
     head_is = cc
 
     -- refused by its degree
@@ -81,7 +80,7 @@ module _ (b d d' : List ℕ) (room : 1756 ≤ length d) (r : Reading) (er : r �
     unfolding report_of
     told_size n big en q = refused Size n (rw (head_is, lt-ltb 86 h.nmax big) refl) en q
 
-    module _ (small : h.nmax ≤ 86) (a : Reading) (ea : a ≡ read_answer (parse b) 3828 3828) where
+    module _ (small : h.nmax ≤ 86) (a : Result FileHead Refusal) (ea : a ≡ read_answer (parse b) 3828 3828) where
       report_is : report_of b ≡ parsed_text (parse b)
       unfolding report_of
       report_is = rw (head_is, le-ltb 86 h.nmax small) refl
@@ -101,8 +100,8 @@ module _ (b d d' : List ℕ) (room : 1756 ≤ length d) (r : Reading) (er : r �
           let n : table_size g.nmax ≡ table_size h.nmax = ap (λ (f : FileHead). table_size f.nmax) e in
           record { is = ap (λ (f : FileHead). model f c s) e; c_long = t.c_long ∙ n; s_long = t.s_long ∙ n }
 
-      refused_by_read : (p : Parsed) → parse b ≡ p → a ≡ read_answer p 3828 3828 → (e : Refusal) → a ≡ Refused e → p ≡ fault e
-      unfolding refuse_reading
+      refused_by_read : (p : Parsed) → parse b ≡ p → a ≡ read_answer p 3828 3828 → (e : Refusal) → a ≡ Err e → p ≡ fault e
+      unfolding refuse
       refused_by_read (fault f) ep x e y = cc
       refused_by_read (model g c s) ep x e y =
           let w = read_model g c s ep in
@@ -111,16 +110,16 @@ module _ (b d d' : List ℕ) (room : 1756 ≤ length d) (r : Reading) (er : r �
           let z : ◌≡◌ {A = ℕ} 0 1 = cc in
           absurd (omega arith)
 
-      accepted_by_read : (p : Parsed) → parse b ≡ p → a ≡ read_answer p 3828 3828 → (g : FileHead) → a ≡ Model g → Read p
+      accepted_by_read : (p : Parsed) → parse b ≡ p → a ≡ read_answer p 3828 3828 → (g : FileHead) → a ≡ Ok g → Read p
       accepted_by_read (fault f) ep x g y = let z : ◌≡◌ {A = ℕ} 0 1 = cc in absurd (omega arith)
       accepted_by_read (model k c s) ep x g y = read_model k c s ep
 
       -- refused behind its head
-      pub told_body : (e : Refusal) (n : ℕ) → a ≡ Refused e → n ≡ 10 → d' ≡ store 0 (refused_text e) d → Told b d n d'
+      pub told_body : (e : Refusal) (n : ℕ) → a ≡ Err e → n ≡ 10 → d' ≡ store 0 (refused_text e) d → Told b d n d'
       told_body e n p en q = refused e n (report_is ∙ ap parsed_text (refused_by_read (parse b) refl ea e p)) en q
 
-      module _ (g : FileHead) (p : a ≡ Model g) (c₀ c₁ s₀ s₁ : List ℕ) (t : ℕ) (et : t ≡ size_of h.nmax) (lc : 3828 ≡ length c₀) (ls : 3828 ≡ length s₀)
-          (ec : c₁ ≡ after (read_outcome a) (store 0 (c_of (parse b)) c₀) c₀) (es : s₁ ≡ after (read_outcome a) (store 0 (s_of (parse b)) s₀) s₀) where
+      module _ (g : FileHead) (p : a ≡ Ok g) (c₀ c₁ s₀ s₁ : List ℕ) (t : ℕ) (et : t ≡ size_of h.nmax) (lc : 3828 ≡ length c₀) (ls : 3828 ≡ length s₀)
+          (ec : c₁ ≡ after (outcome a) (store 0 (c_of (parse b)) c₀) c₀) (es : s₁ ≡ after (outcome a) (store 0 (s_of (parse b)) s₀) s₀) where
         table : Read (parse b)
         table = accepted_by_read (parse b) refl ea g p
 
@@ -128,10 +127,10 @@ module _ (b d d' : List ℕ) (room : 1756 ≤ length d) (r : Reading) (er : r �
         pairs = et ∙ size_is h.nmax (omega arith)
 
         c_is : c₁ ≡ store 0 (c_of (parse b)) c₀
-        c_is = ec ∙ ap (λ (x : Reading). after (read_outcome x) (store 0 (c_of (parse b)) c₀) c₀) p
+        c_is = ec ∙ ap (λ (x : Result FileHead Refusal). after (outcome x) (store 0 (c_of (parse b)) c₀) c₀) p
 
         s_is : s₁ ≡ store 0 (s_of (parse b)) s₀
-        s_is = es ∙ ap (λ (x : Reading). after (read_outcome x) (store 0 (s_of (parse b)) s₀) s₀) p
+        s_is = es ∙ ap (λ (x : Result FileHead Refusal). after (outcome x) (store 0 (s_of (parse b)) s₀) s₀) p
 
         c_lent : Lent t c₁
         c_lent = lent_stored (c_of (parse b)) c₀ c₁ t c_is (omega (arith, pairs, pairs_most h.nmax small))

@@ -1,5 +1,5 @@
 -- What the program `variances` prints for the bytes that it reads, by document 01, in ASCII. Definitions only.
-use Rattle.std.specs.Prelude.{ℕ, zero, suc, ◌+◌, ◌/◌, ◌%◌, cond, List, [], ◌∷◌, ◌++◌, map, ltb, Float}
+use Rattle.std.specs.Prelude.{ℕ, zero, suc, ◌+◌, ◌/◌, ◌%◌, cond, List, [], ◌∷◌, ◌++◌, map, ltb, Float, Err, Ok, Result}
 use Rattle.std.specs.Float.{binary64}
 use Rattle.std.specs.Float.Ieee.{of_bits, to_bits}
 use Rattle.refusal.specs.declared.Refusal.{Refusal}
@@ -8,8 +8,7 @@ use Rattle.refusal.specs.Numbers.{refusal_number}
 use Rattle.storage.specs.Tabulate.{tabulate}
 use Rattle.text.specs.Digits.{decimal_digits}
 use Rattle.coefficients.specs.Values.{variance_of}
-use Rattle.model_file.specs.declared.Reading.{Reading}
-use Rattle.model_file.specs.declared.Reading.TheVariants.{Model, Refused}
+use Rattle.model_file.specs.declared.FileHead.{FileHead}
 use Rattle.model_file.specs.Format.{head_of, Parsed, model, fault, parse}
 
 -- the numbers of bit patterns
@@ -51,9 +50,9 @@ parsed_text (model h c s) = model_text h.nmax c s
 parsed_text (fault e) = refused_text e
 
 -- a head with a degree above 86 is refused by its size, whatever stands behind it
-abbrev pub head_text : Reading → List ℕ → List ℕ
-head_text (Model h) b = cond (ltb 86 h.nmax) (refused_text Size) (parsed_text (parse b))
-head_text (Refused e) b = refused_text e
+abbrev pub head_text : Result FileHead Refusal → List ℕ → List ℕ
+head_text (Ok h) b = cond (ltb 86 h.nmax) (refused_text Size) (parsed_text (parse b))
+head_text (Err e) b = refused_text e
 
 -- what the program prints for the bytes b
 unfoldable pub report_of : List ℕ → List ℕ

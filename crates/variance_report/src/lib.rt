@@ -7,8 +7,7 @@ ghost use Rattle.storage.specs.Triangle.{table_size};
 ghost use Rattle.text.specs.Stored.{Prefix};
 ghost use Rattle.variance_report.specs.Report.{numbers_of, hex_digit, hex_digits, line_of, lines_of, refused_text, model_text, report_of};
 
-use coefficients::{Date, Head, TideSystem};
-use model_file::Reading;
+use coefficients::{Head, TideSystem};
 use refusal::Refusal;
 
 // The numbers of bit patterns, at the front of out.
@@ -16,10 +15,8 @@ fn numbers_of(bits: &[u64], out: &mut [f64])
     requires { length bits.now ≤ length out.old }
     ensures { out.new ≡ store 0 (numbers_of bits.now) out.old }
 {
-    let mut k = 0;
-    while k < bits.len() {
+    for k in 0..bits.len() {
         out[k] = number::number_of_bits(bits[k]);
-        k += 1;
     }
 }
 
@@ -35,11 +32,9 @@ fn write_hex(out: &mut [u8], at: usize, x: u64)
     requires { at + 16 ≤ length out.old }
     ensures { out.new ≡ store at (hex_digits 16 x) out.old }
 {
-    let mut left = 16;
     let mut rest = x;
-    while 0 < left {
-        left -= 1;
-        out[at + left] = hex_digit(rest % 16);
+    for k in (0..16).rev() {
+        out[at + k] = hex_digit(rest % 16);
         rest = rest / 16;
     }
 }
@@ -63,11 +58,9 @@ fn write_lines(out: &mut [u8], variances: &[f64]) -> usize
     ensures value { result ≡ 16 + length (lines_of variances.now 0) }
     ensures out_after { out.new ≡ store 16 (lines_of variances.now 0) out.old }
 {
-    let mut n = 0;
     let mut at = 16;
-    while n < variances.len() {
+    for n in 0..variances.len() {
         at = write_line(out, at, n, number::bits_of_number(variances[n]));
-        n += 1;
     }
     at
 }
@@ -79,7 +72,7 @@ fn write_refused(out: &mut [u8], e: Refusal) -> usize
     ensures out_after { out.new ≡ store 0 (refused_text e) out.old }
 {
     text::write_bytes(out, 0, b"refused ");
-    out[8] = 48 + refusal::refusal_number(e) as u8;
+    out[8] = 48 + u32::from(e) as u8;
     out[9] = 10;
     10
 }
@@ -101,10 +94,10 @@ fn write_model(out: &mut [u8], nmax: usize, c: &[u64], s: &[u64]) -> usize
         gm: 1.0,
         radius: 1.0,
         tide_system: TideSystem::Unknown,
-        date: Date::None,
+        date: None,
         nmax,
     };
-    head.degree_variances(&cs[..t], &ss[..t], &mut variances);
+    let _ = head.degree_variances(&cs[..t], &ss[..t], &mut variances);
     text::write_bytes(out, 0, b"degree variance\n");
     let k = nmax + 1;
     write_lines(out, &variances[..k])
@@ -118,8 +111,8 @@ pub fn report(bytes: &[u8], out: &mut [u8; 1756]) -> usize
     ensures prefix { Prefix result out.new }
 {
     match model_file::head(bytes) {
-        Reading::Refused(e) => write_refused(out, e),
-        Reading::Model(h) => {
+        Err(e) => write_refused(out, e),
+        Ok(h) => {
             let nmax = h.nmax;
             if nmax > 86 {
                 return write_refused(out, Refusal::Size);
@@ -127,8 +120,8 @@ pub fn report(bytes: &[u8], out: &mut [u8; 1756]) -> usize
             let mut c = [0u64; 3828];
             let mut s = [0u64; 3828];
             match model_file::read(bytes, &mut c, &mut s) {
-                Reading::Refused(e) => write_refused(out, e),
-                Reading::Model(_) => {
+                Err(e) => write_refused(out, e),
+                Ok(_) => {
                     let t = storage::table_size(nmax);
                     write_model(out, nmax, &c[..t], &s[..t])
                 }

@@ -15,23 +15,24 @@ use native.Mathlib.Omega.{arith}
 use mathlib.Core.Path.{refl, sym, ap, ◌∙◌}
 use Prim.Native.Nat.{ℕ, ◌*◌}
 use lib.ListN.{length}
+use Rattle.refusal.proofs.Exits.{same_refusal}
 use Rattle.basin_kernel.proofs.basin_kernel.Goals as goal
 
 pub slice_bounds-tables_by-end : goal.slice_bounds-tables_by-end
 slice_bounds-tables_by-end c =
-    let fits = kernel_accepted _ _ _ _ _ _ _ _ _ _ (sym c.in-Done.is ∙ c.kernel_check.ensures) in
+    let fits = kernel_accepted _ _ _ _ _ _ _ _ _ _ c.in_ok-kernel_check.ensures in
     let size = c.table_size-total.ensures ∙ size_is c.args.lmax fits.lists.top in
     omega (arith, size, fits.of_kc)
 
-pub slice_bounds-tables_by-end-in-Done : goal.slice_bounds-tables_by-end-in-Done
-slice_bounds-tables_by-end-in-Done c =
-    let fits = kernel_accepted _ _ _ _ _ _ _ _ _ _ (sym c.in-Done.is ∙ c.kernel_check.ensures) in
+pub slice_bounds-tables_by-end-2 : goal.slice_bounds-tables_by-end-2
+slice_bounds-tables_by-end-2 c =
+    let fits = kernel_accepted _ _ _ _ _ _ _ _ _ _ c.in_ok-kernel_check.ensures in
     let size = c.table_size-total.ensures ∙ size_is c.args.lmax fits.lists.top in
     sym (length-take-le c.table_size-total.result c.args.kc.now (omega (arith, size, fits.of_kc)))
 
 pub tables_by-requires : goal.tables_by-requires
 tables_by-requires c =
-    let fits = kernel_accepted _ _ _ _ _ _ _ _ _ _ (sym c.in-Done.is ∙ c.kernel_check.ensures) in
+    let fits = kernel_accepted _ _ _ _ _ _ _ _ _ _ c.in_ok-kernel_check.ensures in
     let size = c.table_size-total.ensures ∙ size_is c.args.lmax fits.lists.top in
     let lent = length-take-le c.table_size-total.result c.args.kc.now (omega (arith, size, fits.of_kc)) in
     record { fact_1 = fits.lists.top; fact_2 = size; fact_3 = omega (arith, lent, size, guesses_fit c.args.lmax); fact_4 = omega (arith, size, fits.of_work) }
@@ -39,7 +40,7 @@ tables_by-requires c =
 pub add_all-requires : goal.add_all-requires
 add_all-requires c =
     let a = c.args in
-    let done = sym c.in-Done.is ∙ c.kernel_check.ensures in
+    let done = c.in_ok-kernel_check.ensures in
     let fits = kernel_accepted _ _ _ _ _ _ _ _ _ _ done in
     let size = c.table_size-total.ensures ∙ size_is a.lmax fits.lists.top in
     let total = c.table_size-total.result in
@@ -52,15 +53,15 @@ add_all-requires c =
     let (made, zc, zs) = cleared a.lmax (zero_head one64 one64 a.lmax) _ a.ks.now room r x y in
     let in-work = tables_in a.lmax a.work.now size tables (omega (arith, size, fits.of_work)) in record { node_lists_to_1 = fits.lists; node_lists_to_2 = in-work; node_lists_to_3 = omega (arith, fits.of_kc, zc.long, guessed.long); node_lists_to_4 = omega (arith, fits.of_ks, zs.long); filled_1 = filled_self zc; filled_2 = filled_self zs }
 
-pub returns-in-Refused : goal.returns-in-Refused
-returns-in-Refused c =
-    let told = sym c.in-Refused.is ∙ c.kernel_check.ensures in
-    record { value = model_refused _ _ told; kc_after = refl; ks_after = refl; work_unchanged_1 = refl; work_unchanged_2 = refl }
+pub returns-in_err-kernel_check : goal.returns-in_err-kernel_check
+returns-in_err-kernel_check c =
+    let told = c.in_err-kernel_check.ensures in
+    rw (same_refusal c.from_residual.ensures.1 refl) (record { value = model_refused _ _ told; kc_after = refl; ks_after = refl; work_unchanged_1 = refl; work_unchanged_2 = refl })
 
-pub returns-in-Done : goal.returns-in-Done
-returns-in-Done c =
+pub returns : goal.returns
+returns c =
     let a = c.args in
-    let done = sym c.in-Done.is ∙ c.kernel_check.ensures in
+    let done = c.in_ok-kernel_check.ensures in
     let fits = kernel_accepted _ _ _ _ _ _ _ _ _ _ done in
     let size = c.table_size-total.ensures ∙ size_is a.lmax fits.lists.top in
     let total = c.table_size-total.result in

@@ -1,17 +1,12 @@
 -- `derivative::derive_rows` meets its contract: the rows below n are written. Assumes nothing.
-use Rattle.storage.specs.Filled.{Filled, filled_none, filled_to}
-use Rattle.storage.specs.Triangle.{row_start, along, row_start_zero, row_within, rows_more, cells}
-use Rattle.derivative.specs.Derivative.{d_cell, derived_in_table}
+use Rattle.storage.specs.Filled.{Filled}
+use Rattle.storage.specs.Triangle.{row_start, along, cells}
+use Rattle.derivative.specs.Derivative.{d_cell}
 use lib.Ieee.{nan}
-use borrow.Author.Rules.{rules}
-use native.Mathlib.Omega.{arith}
-use mathlib.Core.Path.{◌≡◌, refl, sym, ap, ◌∙◌}
-use Prim.Native.Nat.{◌+◌, ◌-◌, ◌≤◌}
+use mathlib.Core.Path.{◌≡◌}
+use Prim.Native.Nat.{◌+◌, ◌≤◌}
 use lib.ListN.{length}
 use Rattle.derivative.proofs.derive_rows.Given as goal
 
 abbrev pub invariant-loop-n : goal.invariant-loop-n
 invariant-loop-n l = (l.at ≡ row_start l.n) × (l.n ≤ l.nmax + 1) × (length l.w ≡ length l.initial.w) × Filled 0 (along (d_cell (cells l.src nan))) (row_start l.n) l.initial.dst l.dst
-
-abbrev pub decreases-loop-n : goal.decreases-loop-n
-decreases-loop-n l = l.nmax + 1 - l.n

@@ -7,6 +7,3 @@ use Rattle.fourier_synthesis.proofs.points_rest.Given as goal
 
 abbrev pub invariant-loop-j : goal.invariant-loop-j
 invariant-loop-j l = ((l.first ≤ l.j) × (l.j ≤ l.longitudes)) × (l.k ≡ l.j * l.stride) × Filled (l.at + l.first) (point_after l.first l.nmax l.x l.y l.trig) (l.j - l.first) l.initial.out l.out
-
-abbrev pub decreases-loop-j : goal.decreases-loop-j
-decreases-loop-j l = l.longitudes - l.j

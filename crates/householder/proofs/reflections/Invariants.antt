@@ -1,11 +1,9 @@
 -- `reflections` meets its contract: the reflections from k on make of the matrices now what all of them make of the matrices at the start. Assumes nothing.
-use borrow.Author.Rules.{rules}
-use native.Mathlib.Omega.{arith}
-use mathlib.Core.Path.{◌≡◌, refl, sym, ap, ◌∙◌}
-use Prim.Native.Nat.{◌+◌, ◌-◌, ◌*◌, ◌≤◌}
+use mathlib.Core.Path.{◌≡◌}
+use Prim.Native.Nat.{◌-◌, ◌*◌, ◌≤◌}
 use lib.ListN.{length}
-use Rattle.storage.specs.Iterate.{iterate, iterate_step, iterate_done}
-use Rattle.matrix.specs.Layout.{transposed, Kept, kept_none, kept_then}
+use Rattle.storage.specs.Iterate.{iterate}
+use Rattle.matrix.specs.Layout.{transposed, Kept}
 use Rattle.householder.specs.Reduction.{reduction_of, reflection, reductions}
 use Rattle.householder.proofs.reflections.Given as goal
 
@@ -17,6 +15,3 @@ invariant-loop-k l = (l.k ≤ l.n)
     × Kept (l.n * l.n) l.initial.q l.q
     × (iterate (reflection l.n) l.k (l.n - 2) (reduction_of (transposed l.n l.w) (transposed l.n l.q))
     ≡ reductions l.n (reduction_of (transposed l.n l.initial.w) (transposed l.n l.initial.q)))
-
-abbrev pub decreases-loop-k : goal.decreases-loop-k
-decreases-loop-k l = l.n - l.k

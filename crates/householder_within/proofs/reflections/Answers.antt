@@ -1,10 +1,9 @@
 -- `reflections` meets its contract. Assumes nothing.
 use native.Mathlib.Omega.{arith}
-use mathlib.Core.Path.{◌≡◌, refl, sym, ap, ◌∙◌}
-use Prim.Native.Nat.{◌+◌, ◌-◌, ◌*◌, ◌≤◌}
-use lib.ListN.{length}
+use mathlib.Core.Path.{refl, sym, ap, ◌∙◌}
+use Prim.Native.Nat.{◌+◌, ◌-◌}
 use Rattle.storage.specs.Iterate.{iterate, iterate_step, iterate_done}
-use Rattle.matrix.specs.Layout.{Kept, kept_none, kept_then}
+use Rattle.matrix.specs.Layout.{kept_none, kept_then}
 use Rattle.householder.specs.Reduction.{reflection, reductions}
 use Rattle.householder_within.specs.Within.{held_within, room_kept}
 use Rattle.householder_within.proofs.reflections.Goals as goal
@@ -12,9 +11,6 @@ use Rattle.householder_within.proofs.reflections.Goals as goal
 pub loop-k-init : goal.loop-k-init
 unfolding reductions
 loop-k-init c = (omega arith, refl, refl, kept_none, refl)
-
-pub overflow_add-k : goal.overflow_add-k
-overflow_add-k c = omega (arith, c.requires.fact_3.small)
 
 pub clear_column-requires : goal.clear_column-requires
 clear_column-requires c =

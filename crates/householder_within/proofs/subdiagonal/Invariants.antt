@@ -1,12 +1,8 @@
 -- `subdiagonal` meets its contract: the numbers below index i are written. Assumes nothing.
-use native.Mathlib.Omega.{arith}
-use Prim.Native.Nat.{◌-◌, ◌≤◌}
-use Rattle.storage.specs.Filled.{Filled, filled_none, filled_more, filled_to}
+use Prim.Native.Nat.{◌≤◌}
+use Rattle.storage.specs.Filled.{Filled}
 use Rattle.householder.specs.Columns.{subdiagonal_in}
 use Rattle.householder_within.proofs.subdiagonal.Given as goal
 
 abbrev pub invariant-loop-i : goal.invariant-loop-i
 invariant-loop-i l = (l.i ≤ l.n) × Filled 0 (subdiagonal_in l.n l.w) l.i l.initial.e l.e
-
-abbrev pub decreases-loop-i : goal.decreases-loop-i
-decreases-loop-i l = l.n - l.i

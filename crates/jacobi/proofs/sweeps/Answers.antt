@@ -1,9 +1,9 @@
 -- `sweeps` meets its contract: each way through the test has its law. Assumes nothing.
-use borrow.Author.Rules.{rules}
 use native.Mathlib.Omega.{arith}
-use Prim.Native.Nat.{◌-◌, ◌≤◌}
-use Rattle.jacobi.specs.Jacobi.{sweeps}
-use Rattle.jacobi.specs.JacobiLaws.{held, small_is, Sweeping, sweeping_first, sweeping_more, sweeping_settled, sweeping_over}
+use Rattle.jacobi.specs.JacobiLaws.{held, small_is, sweeping_first, sweeping_more, sweeping_settled, sweeping_over}
+use Rattle.std.specs.Prelude.{◌≡◌, ℕ, false}
+use Rattle.std.proofs.Common.{ap, ◌∙◌}
+use Rattle.jacobi.specs.Jacobi.{state}
 use Rattle.jacobi.proofs.sweeps.Goals as goal
 
 pub loop-k-init : goal.loop-k-init
@@ -26,5 +26,13 @@ loop-k-preserved c =
 
 pub returns : goal.returns
 returns c =
-    let r = c.loop-k.invariant in
-    record { fact_1 = sweeping_over r.1 (omega arith); fact_2 = r.1.matrix; fact_3 = r.1.product; fact_4 = r.0 }
+    let a = c.args in
+    let l = c.loop-k in
+    let r = l.invariant in
+    let last : 100 ≡ l.k = omega arith in
+    record {
+      fact_1 = ap (λ (k : ℕ). state (held a.n l.a l.v) k false) last ∙ sweeping_over r.1 (omega arith);
+      fact_2 = r.1.matrix;
+      fact_3 = r.1.product;
+      fact_4 = omega arith;
+    }

@@ -1,10 +1,9 @@
 -- `basin_average` meets its contract. Assumes nothing.
 use Rattle.lengths.specs.Told.{too_large, small_enough, size_refused, told_past, promised}
 use Rattle.lengths.specs.Lengths.{average_lengths}
-use Rattle.storage.specs.Checks.{refused_then, done_then}
 use native.Mathlib.Omega.{arith}
-use borrow.Author.Rules.{rules}
 use Rattle.lengths.proofs.basin_average.Goals as goal
+use Rattle.refusal.specs.Numbers.{done_then, refused_then}
 
 pub returns-then-kmax-gt-MAX_DEGREE : goal.returns-then-kmax-gt-MAX_DEGREE
 returns-then-kmax-gt-MAX_DEGREE c =

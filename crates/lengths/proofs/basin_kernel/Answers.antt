@@ -2,10 +2,9 @@
 use Rattle.lengths.specs.Told.{too_large, small_enough, size_refused, told_past, promised}
 use Rattle.lengths.specs.Lengths.{kernel_told}
 use Rattle.region_nodes.specs.Regions.{integrals}
-use Rattle.storage.specs.Checks.{refused_then, done_then}
 use native.Mathlib.Omega.{arith}
-use borrow.Author.Rules.{rules}
 use Rattle.lengths.proofs.basin_kernel.Goals as goal
+use Rattle.refusal.specs.Numbers.{done_then, refused_then}
 
 pub returns-then-lmax-gt-MAX_DEGREE : goal.returns-then-lmax-gt-MAX_DEGREE
 returns-then-lmax-gt-MAX_DEGREE c =

@@ -3,12 +3,11 @@ use native.Mathlib.Omega.{arith}
 use Rattle.lengths.specs.Told.{too_large, small_enough, size_refused, told_past, promised}
 use Rattle.lengths.specs.Lengths.{matrix_told}
 use Rattle.region_nodes.specs.Regions.{integrals}
-use Rattle.storage.specs.Checks.{refused_then, done_then}
 use mathlib.Core.Path.{ap₂}
 use mathlib.Core.Path.{◌∙◌}
 use Prim.Native.Nat.{ℕ, ◌*◌}
-use borrow.Author.Rules.{rules}
 use Rattle.lengths.proofs.concentration_matrix.Goals as goal
+use Rattle.refusal.specs.Numbers.{done_then, refused_then}
 
 pub returns-then-lmax-gt-MAX_REGION : goal.returns-then-lmax-gt-MAX_REGION
 returns-then-lmax-gt-MAX_REGION c =

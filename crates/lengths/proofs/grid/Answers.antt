@@ -1,10 +1,9 @@
 -- `grid` meets its contract. Assumes nothing.
 use Rattle.lengths.specs.Told.{too_large, small_enough, size_refused, told_past, promised}
 use Rattle.lengths.specs.Lengths.{grid_told}
-use Rattle.storage.specs.Checks.{refused_then, done_then}
 use native.Mathlib.Omega.{arith}
-use borrow.Author.Rules.{rules}
 use Rattle.lengths.proofs.grid.Goals as goal
+use Rattle.refusal.specs.Numbers.{done_then, refused_then}
 
 pub returns-then-rows-gt-MAX_LINES : goal.returns-then-rows-gt-MAX_LINES
 returns-then-rows-gt-MAX_LINES c =

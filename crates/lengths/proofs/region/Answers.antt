@@ -3,9 +3,8 @@ use native.Mathlib.Omega.{arith}
 use Rattle.lengths.specs.Told.{too_large, small_enough, size_refused, told_past, promised}
 use Rattle.lengths.specs.Lengths.{region_told}
 use Rattle.region_nodes.specs.Regions.{integrals}
-use Rattle.storage.specs.Checks.{refused_then, done_then}
-use borrow.Author.Rules.{rules}
 use Rattle.lengths.proofs.region.Goals as goal
+use Rattle.refusal.specs.Numbers.{done_then, refused_then}
 
 pub returns-then-lmax-gt-MAX_REGION : goal.returns-then-lmax-gt-MAX_REGION
 returns-then-lmax-gt-MAX_REGION c =

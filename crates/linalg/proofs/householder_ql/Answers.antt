@@ -1,27 +1,23 @@
 -- `householder_ql` meets its contract: past the checks the answer is worked out. Assumes nothing.
+use Rattle.std.specs.Prelude.{Ok}
 use native.Mathlib.Omega.{arith}
-use mathlib.Core.Path.{◌≡◌, refl, sym, ◌∙◌}
+use mathlib.Core.Path.{◌≡◌, sym, ◌∙◌}
 use lib.ListN.{length}
-use borrow.Author.Rules.{rules}
-use Rattle.refusal.specs.declared.Answer.TheVariants.{Done}
 use Rattle.linalg.specs.Eigen.{eigen_check}
 use Rattle.linalg.specs.Checks.{accepted}
-use Rattle.linalg.specs.Solution.{solution_refused, solution_solved, count_within}
+use Rattle.linalg.specs.Solution.{solution_solved, count_within}
 use Rattle.linalg.specs.Limits.{householder_count_limit}
 use Rattle.linalg.proofs.householder_ql.Goals as goal
 
 pub reduce_and_iterate-requires : goal.reduce_and_iterate-requires
 reduce_and_iterate-requires c =
-    let done : Done ≡ eigen_check c.args.n (length c.args.a.now) (length c.args.work.now) (length c.args.values.now) (length c.args.vectors.now) = sym c.in-Done.is ∙ c.eigen_check.ensures in
+    let done : Ok tt ≡ eigen_check c.args.n (length c.args.a.now) (length c.args.work.now) (length c.args.values.now) (length c.args.vectors.now) = sym c.in_ok-eigen_check.was ∙ c.eigen_check.ensures in
     let ok = accepted _ _ _ _ _ done in
     record { fact_1 = omega arith; fact_2 = omega arith; fact_3 = omega arith; fact_4 = omega arith; fact_5 = omega arith }
 
-pub returns-in-Refused : goal.returns-in-Refused
-returns-in-Refused c = record { value_1 = solution_refused _ _ (sym c.in-Refused.is ∙ c.eigen_check.ensures); value_2 = omega arith; values_after = refl; vectors_after = refl; work_unchanged = refl; work_len_unchanged = refl }
-
-pub returns-in-Done : goal.returns-in-Done
-returns-in-Done c =
-    let done : Done ≡ eigen_check c.args.n (length c.args.a.now) (length c.args.work.now) (length c.args.values.now) (length c.args.vectors.now) = sym c.in-Done.is ∙ c.eigen_check.ensures in
+pub returns : goal.returns
+returns c =
+    let done : Ok tt ≡ eigen_check c.args.n (length c.args.a.now) (length c.args.work.now) (length c.args.values.now) (length c.args.vectors.now) = sym c.in_ok-eigen_check.was ∙ c.eigen_check.ensures in
     let made = c.reduce_and_iterate.ensures in
     let a = c.args in
     let is = made.value in record { value_1 = solution_solved done is; value_2 = count_within is (householder_count_limit a.n a.a.now); values_after = made.filled.is; vectors_after = made.filled_2.is; work_unchanged = made.kept.behind; work_len_unchanged = made.kept.long }

@@ -3,8 +3,6 @@ use Rattle.model_file.proofs.Stores.{head_parts}
 use Rattle.model_file.specs.Dates.{size_least}
 use lib.ListN.{length-set}
 use native.Mathlib.Omega.{arith}
-use mathlib.Core.Path.{◌∙◌}
-use borrow.Author.Rules.{rules}
 use Rattle.model_file.proofs.write_head.Goals as goal
 
 pub bounds-out-0 : goal.bounds-out-0
@@ -48,7 +46,7 @@ returns c =
     let write-degree = c.write_degree in
     let write-date = c.write_date in
     let head_kind_lem = c.head_kind in
-    let tide-byte = c.tide_byte in
+    let tide-byte = c.from in
     head_parts a.out.now write_word.new.out write-word2.new.out write-degree.new.out write-date.new.out a.head head_kind_lem.result
     tide-byte.result head_kind_lem.ensures write_word.ensures write-word2.ensures tide-byte.ensures write-degree.ensures
     write-date.ensures

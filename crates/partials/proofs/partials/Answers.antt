@@ -1,24 +1,21 @@
 -- `partials` meets its contract: past the checks it is a list of one point. Assumes nothing.
-use Rattle.partials.specs.Promise.{point_refused, one_point}
+use Rattle.partials.specs.Promise.{one_point}
 use Rattle.point_lists.specs.Checks.{point_accepted}
 use native.Mathlib.Omega.{arith}
-use mathlib.Core.Path.{refl, sym, ◌∙◌}
+use mathlib.Core.Path.{sym, ◌∙◌}
 use Rattle.partials.proofs.partials.Goals as goal
 
 pub compute-requires : goal.compute-requires
 compute-requires c =
     let point-check = c.point_check in
-    point_accepted 4 _ _ _ _ _ 4 (sym c.in-Done.is ∙ point-check.ensures)
+    point_accepted 4 _ _ _ _ _ 4 (sym c.in_ok-point_check.was ∙ point-check.ensures)
 
-pub returns-in-Refused : goal.returns-in-Refused
-returns-in-Refused c = record { value = point_refused _ _ (sym c.in-Refused.is ∙ c.point_check.ensures); work_unchanged = refl; work_len_unchanged = refl }
-
-pub returns-in-Done : goal.returns-in-Done
-returns-in-Done c =
+pub returns : goal.returns
+returns c =
     let point-check = c.point_check in
     let compute = c.compute in
     let a = c.args in
-    let d = sym c.in-Done.is ∙ point-check.ensures in
+    let d = sym c.in_ok-point_check.was ∙ point-check.ensures in
     let made = compute.ensures in record {
       value = one_point a.head.gm a.head.radius a.head.nmax a.c.now a.s.now a.trig.now a.r a.latitude.t a.latitude.u d made
           (omega arith);

@@ -1,19 +1,16 @@
 -- `partials_along` meets its contract: past the checks the points are written. Assumes nothing.
 use Rattle.point_lists.specs.Checks.{many_accepted}
-use mathlib.Core.Path.{refl, sym, ◌∙◌}
+use mathlib.Core.Path.{sym, ◌∙◌}
 use Rattle.partials.proofs.partials_along.Goals as goal
 
 pub compute-requires : goal.compute-requires
 compute-requires c =
     let along-check = c.along_check in
-    many_accepted 4 4 _ _ _ _ _ _ _ _ _ (sym c.in-Done.is ∙ along-check.ensures)
+    many_accepted 4 4 _ _ _ _ _ _ _ _ _ (sym c.in_ok-along_check.was ∙ along-check.ensures)
 
-pub returns-in-Refused : goal.returns-in-Refused
-returns-in-Refused c = record { value = sym c.in-Refused.is ∙ c.along_check.ensures; out_after = refl; work_unchanged = refl; work_len_unchanged = refl }
-
-pub returns-in-Done : goal.returns-in-Done
-returns-in-Done c =
+pub returns : goal.returns
+returns c =
     let along-check = c.along_check in
     let compute = c.compute in
     let made = compute.ensures in
-    record { value = sym c.in-Done.is ∙ along-check.ensures; out_after = made.values.is; work_unchanged = made.rest; work_len_unchanged = made.long }
+    record { value = sym c.in_ok-along_check.was ∙ along-check.ensures; out_after = made.values.is; work_unchanged = made.rest; work_len_unchanged = made.long }

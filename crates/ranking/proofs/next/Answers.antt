@@ -6,7 +6,6 @@ use Prim.Native.Nat.{ℕ}
 use native.Mathlib.Omega.{arith}
 use lib.ListN.{get_or}
 use lib.Ieee.{Float, nan}
-use borrow.Author.Rules.{rules}
 use Rattle.number.specs.Order.{ranks_before}
 use Rattle.ranking.specs.Places.{key_before}
 use Rattle.ranking.specs.Merging.{first_of_both, second_of_both, first_alone, second_alone}
@@ -27,11 +26,11 @@ returns-then-j-hi c = first_alone _ _ _ _ _ _ (omega arith) (omega arith) (omega
 pub returns-then-ranks_before : goal.returns-then-ranks_before
 returns-then-ranks_before c =
     second_of_both _ _ _ _ _ _ (omega arith) (omega arith) (omega arith) (omega arith)
-    (tested c.args.keys.now c.index-first.ensures c.index-second.ensures c.element_or_nan.ensures c.element_or_nan-2.ensures c.ranks_before.ensures
+    (tested c.args.keys.now c.from-first.ensures c.from-second.ensures c.element_or_nan.ensures c.element_or_nan-2.ensures c.ranks_before.ensures
     c.if-ranks_before.true)
 
 pub returns : goal.returns
 returns c =
     first_of_both _ _ _ _ _ _ (omega arith) (omega arith) (omega arith) (omega arith)
-    (tested c.args.keys.now c.index-first.ensures c.index-second.ensures c.element_or_nan.ensures c.element_or_nan-2.ensures c.ranks_before.ensures
+    (tested c.args.keys.now c.from-first.ensures c.from-second.ensures c.element_or_nan.ensures c.element_or_nan-2.ensures c.ranks_before.ensures
     c.if-ranks_before.false)

@@ -1,18 +1,10 @@
 -- `recursion::a_row` meets its contract: the orders below m are written, and 0 on the diagonal. Assumes nothing.
-use lib.ListN.{length-set}
 use Rattle.number.specs.Float64.{of_whole}
-use Rattle.number.specs.Whole.{whole, whole_zero, whole_next}
-use Rattle.storage.specs.Filled.{Filled, filled_none, filled_more, filled_to}
+use Rattle.storage.specs.Filled.{Filled}
 use Rattle.recursion.specs.Recursion.{a_cell}
-use Rattle.recursion.specs.RecursionLaws.{a_below, a_diagonal}
-use borrow.Author.Rules.{rules}
-use native.Mathlib.Omega.{arith}
-use mathlib.Core.Path.{◌≡◌, refl, ◌∙◌}
-use Prim.Native.Nat.{◌-◌, ◌≤◌}
+use mathlib.Core.Path.{◌≡◌}
+use Prim.Native.Nat.{◌≤◌}
 use Rattle.recursion.proofs.a_row.Given as goal
 
 abbrev pub invariant-loop-m : goal.invariant-loop-m
 invariant-loop-m l = (l.m ≤ l.n) × (l.mf ≡ of_whole l.m) × Filled l.at (a_cell l.n) l.m l.initial.a l.a
-
-abbrev pub decreases-loop-m : goal.decreases-loop-m
-decreases-loop-m l = l.n - l.m

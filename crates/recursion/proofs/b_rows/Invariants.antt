@@ -1,15 +1,10 @@
 -- `recursion::b_rows` meets its contract: the rows below n are written. Assumes nothing.
 use Rattle.recursion.specs.Recursion.{b_cell}
-use Rattle.storage.specs.Triangle.{row_start, rows_from, row_within, rows_from_more}
-use Rattle.storage.specs.Filled.{Filled, filled_none, filled_to}
-use borrow.Author.Rules.{rules}
-use native.Mathlib.Omega.{arith}
-use mathlib.Core.Path.{◌≡◌, refl, ap}
-use Prim.Native.Nat.{ℕ, ◌+◌, ◌-◌, ◌≤◌}
+use Rattle.storage.specs.Triangle.{row_start, rows_from}
+use Rattle.storage.specs.Filled.{Filled}
+use mathlib.Core.Path.{◌≡◌}
+use Prim.Native.Nat.{◌+◌, ◌-◌, ◌≤◌}
 use Rattle.recursion.proofs.b_rows.Given as goal
 
 abbrev pub invariant-loop-n : goal.invariant-loop-n
 invariant-loop-n l = (l.at ≡ row_start l.n) × (l.first ≤ l.n) × (l.n ≤ l.nmax + 1) × Filled l.start (rows_from b_cell l.first) (row_start l.n - l.start) l.initial.b l.b
-
-abbrev pub decreases-loop-n : goal.decreases-loop-n
-decreases-loop-n l = l.nmax + 1 - l.n

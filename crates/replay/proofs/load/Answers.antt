@@ -2,7 +2,7 @@
 use native.Mathlib.Nat.{zero-add}
 use native.Mathlib.Omega.{arith}
 use mathlib.Core.Path.{sym}
-use Rattle.storage.specs.Filled.{filled_none, filled_more, filled_to}
+use Rattle.storage.specs.Filled.{filled_none, filled_more}
 use Rattle.replay.specs.Answers.{number_at}
 use Rattle.replay.proofs.load.Goals as goal
 
@@ -12,6 +12,3 @@ loop-i-init c = (omega arith, filled_none)
 pub loop-i-preserved : goal.loop-i-preserved
 unfolding number_at
 loop-i-preserved c = (omega arith, filled_more c.loop-i.invariant.1 (sym (zero-add _)) c.number_of_bits.ensures)
-
-pub returns : goal.returns
-returns c = filled_to c.loop-i.invariant.1 (omega arith)

@@ -1,5 +1,5 @@
 -- `load` meets its contract: the first i numbers are written. Assumes nothing.
-use Prim.Native.Nat.{◌-◌, ◌≤◌}
+use Prim.Native.Nat.{◌≤◌}
 use lib.ListN.{length}
 use Rattle.storage.specs.Filled.{Filled}
 use Rattle.replay.specs.Answers.{number_at}
@@ -7,6 +7,3 @@ use Rattle.replay.proofs.load.Given as goal
 
 abbrev pub invariant-loop-i : goal.invariant-loop-i
 invariant-loop-i l = (l.i ≤ length l.initial.out) × Filled 0 (number_at l.words l.at) l.i l.initial.out l.out
-
-abbrev pub decreases-loop-i : goal.decreases-loop-i
-decreases-loop-i l = length l.initial.out - l.i

@@ -1,6 +1,6 @@
 -- `same` meets its contract: the sum so far counts the first i numbers. Assumes nothing.
 use mathlib.Core.Path.{◌≡◌}
-use Prim.Native.Nat.{◌+◌, ◌-◌, ◌≤◌}
+use Prim.Native.Nat.{◌+◌, ◌≤◌}
 use lib.ListN.{length}
 use Rattle.storage.specs.Fold.{fold_left}
 use Rattle.replay.specs.Answers.{agrees_at}
@@ -8,6 +8,3 @@ use Rattle.replay.proofs.same.Given as goal
 
 abbrev pub invariant-loop-i : goal.invariant-loop-i
 invariant-loop-i l = (l.i ≤ length l.list) × (l.right ≤ l.i) × (l.right ≡ fold_left ◌+◌ (agrees_at l.list l.words l.at) 0 l.i)
-
-abbrev pub decreases-loop-i : goal.decreases-loop-i
-decreases-loop-i l = length l.list - l.i

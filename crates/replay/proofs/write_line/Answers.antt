@@ -5,41 +5,6 @@ use Rattle.text.specs.Digits.{length_word}
 use Rattle.replay.proofs.Lines.{length-line, line_parts}
 use Rattle.replay.proofs.write_line.Goals as goal
 
-pub write_decimal-of-requires : goal.write_decimal-of-requires
-write_decimal-of-requires c =
-    let name = c.write_bytes-digits in
-    let a = c.args in
-    omega (arith, length_word a.right (omega arith), name.auto.out)
-
-pub write_bytes-last-requires : goal.write_bytes-last-requires
-write_bytes-last-requires c =
-    let right = c.write_decimal-of in
-    let name = c.write_bytes-digits in
-    let a = c.args in
-    omega (arith, length_word a.right (omega arith), name.auto.out, right.auto.out)
-
-pub write_decimal-end-requires : goal.write_decimal-end-requires
-write_decimal-end-requires c =
-    let of = c.write_bytes-last in
-    let right = c.write_decimal-of in
-    let name = c.write_bytes-digits in
-    let a = c.args in
-    omega (arith, length_word a.right (omega arith), length_word a.all (omega arith), name.auto.out, right.auto.out, of.auto.out)
-
-pub bounds-out-end : goal.bounds-out-end
-bounds-out-end c =
-    let all = c.write_decimal-end in
-    let of = c.write_bytes-last in
-    let right = c.write_decimal-of in
-    let name = c.write_bytes-digits in
-    let a = c.args in
-    omega (arith, length_word a.right (omega arith), length_word a.all (omega arith), name.auto.out, right.auto.out, of.auto.out, all.auto.out)
-
-pub overflow_add-result : goal.overflow_add-result
-overflow_add-result c =
-    let a = c.args in
-    omega (arith, length_word a.right (omega arith), length_word a.all (omega arith))
-
 pub returns : goal.returns
 returns c =
     let all = c.write_decimal-end in

@@ -13,19 +13,13 @@ pub add_degree-sums-requires : goal.add_degree-sums-requires
 add_degree-sums-requires c =
     let l = c.loop-n in
     let room = c.requires.second_room in
-    record { n_in_bounds_1 = omega (arith, row_within l.n c.args.nmax c.loop-n-test.true room.top, room, c.requires.nmax_in_bounds_1, l.invariant, l.invariant.2.start, c.loop-n-test.true); n_in_bounds_2 = omega (arith, row_within l.n c.args.nmax c.loop-n-test.true room.top, room, c.requires.nmax_in_bounds_1, l.invariant, l.invariant.2.start, c.loop-n-test.true); n_in_bounds_3 = omega (arith, row_within l.n c.args.nmax c.loop-n-test.true room.top, room, c.requires.nmax_in_bounds_1, l.invariant, l.invariant.2.start, c.loop-n-test.true); n_in_bounds_4 = omega (arith, row_within l.n c.args.nmax c.loop-n-test.true room.top, room, c.requires.nmax_in_bounds_1, l.invariant, l.invariant.2.start, c.loop-n-test.true); n_in_bounds_5 = omega (arith, row_within l.n c.args.nmax c.loop-n-test.true room.top, room, c.requires.nmax_in_bounds_1, l.invariant, l.invariant.2.start, c.loop-n-test.true); n_bound_1 = omega (arith, row_within l.n c.args.nmax c.loop-n-test.true room.top, room, c.requires.nmax_in_bounds_1, l.invariant, l.invariant.2.start, c.loop-n-test.true); n_bound_2 = omega (arith, row_within l.n c.args.nmax c.loop-n-test.true room.top, room, c.requires.nmax_in_bounds_1, l.invariant, l.invariant.2.start, c.loop-n-test.true); n_bound_3 = omega (arith, row_within l.n c.args.nmax c.loop-n-test.true room.top, room, c.requires.nmax_in_bounds_1, l.invariant, l.invariant.2.start, c.loop-n-test.true); n_bound_4 = omega (arith, row_within l.n c.args.nmax c.loop-n-test.true room.top, room, c.requires.nmax_in_bounds_1, l.invariant, l.invariant.2.start, c.loop-n-test.true); n_bound_5 = omega (arith, row_within l.n c.args.nmax c.loop-n-test.true room.top, room, c.requires.nmax_in_bounds_1, l.invariant, l.invariant.2.start, c.loop-n-test.true) }
+    record { n_in_bounds_1 = omega (arith, row_within l.n c.args.nmax (omega arith) room.top, room, c.requires.nmax_in_bounds_1, l.invariant, l.invariant.2.start, c.loop-n-test.true); n_in_bounds_2 = omega (arith, row_within l.n c.args.nmax (omega arith) room.top, room, c.requires.nmax_in_bounds_1, l.invariant, l.invariant.2.start, c.loop-n-test.true); n_in_bounds_3 = omega (arith, row_within l.n c.args.nmax (omega arith) room.top, room, c.requires.nmax_in_bounds_1, l.invariant, l.invariant.2.start, c.loop-n-test.true); n_in_bounds_4 = omega (arith, row_within l.n c.args.nmax (omega arith) room.top, room, c.requires.nmax_in_bounds_1, l.invariant, l.invariant.2.start, c.loop-n-test.true); n_in_bounds_5 = omega (arith, row_within l.n c.args.nmax (omega arith) room.top, room, c.requires.nmax_in_bounds_1, l.invariant, l.invariant.2.start, c.loop-n-test.true); n_bound_1 = omega (arith, row_within l.n c.args.nmax (omega arith) room.top, room, c.requires.nmax_in_bounds_1, l.invariant, l.invariant.2.start, c.loop-n-test.true); n_bound_2 = omega (arith, row_within l.n c.args.nmax (omega arith) room.top, room, c.requires.nmax_in_bounds_1, l.invariant, l.invariant.2.start, c.loop-n-test.true); n_bound_3 = omega (arith, row_within l.n c.args.nmax (omega arith) room.top, room, c.requires.nmax_in_bounds_1, l.invariant, l.invariant.2.start, c.loop-n-test.true); n_bound_4 = omega (arith, row_within l.n c.args.nmax (omega arith) room.top, room, c.requires.nmax_in_bounds_1, l.invariant, l.invariant.2.start, c.loop-n-test.true); n_bound_5 = omega (arith, row_within l.n c.args.nmax (omega arith) room.top, room, c.requires.nmax_in_bounds_1, l.invariant, l.invariant.2.start, c.loop-n-test.true) }
 
 pub overflow_add-at : goal.overflow_add-at
-overflow_add-at c = omega (arith, row_within c.loop-n.n c.args.nmax c.loop-n-test.true c.requires.second_room.top, c.loop-n.invariant.2.start)
+overflow_add-at c = omega (arith, row_within c.loop-n.n c.args.nmax (omega arith) c.requires.second_room.top, c.loop-n.invariant.2.start)
 
 pub overflow_add-at-in-loop-n : goal.overflow_add-at-in-loop-n
-overflow_add-at-in-loop-n c = omega (arith, row_within c.loop-n.n c.args.nmax c.loop-n-test.true c.requires.second_room.top, c.loop-n.invariant.2.start)
-
-pub overflow_add-n : goal.overflow_add-n
-overflow_add-n c = omega (arith, c.loop-n-test.true, c.requires.second_room.top)
-
-pub loop-n-smaller : goal.loop-n-smaller
-loop-n-smaller c = omega (arith, c.loop-n-test.true)
+overflow_add-at-in-loop-n c = omega (arith, row_within c.loop-n.n c.args.nmax (omega arith) c.requires.second_room.top, c.loop-n.invariant.2.start)
 
 pub loop-n-preserved : goal.loop-n-preserved
 loop-n-preserved c =

@@ -72,9 +72,6 @@ offset_bounds-rows-m-in-loop-m-3 c = omega (arith, c.requires, c.well_formed, c.
 pub bounds-rows-m-in-loop-m-3 : goal.bounds-rows-m-in-loop-m-3
 bounds-rows-m-in-loop-m-3 c = simp length-set (omega (arith, c.requires, c.well_formed, c.loop-m.invariant.0, c.loop-m.invariant.1.long, c.loop-m-test.true))
 
-pub overflow_add-m : goal.overflow_add-m
-overflow_add-m c = omega (arith, c.requires, c.well_formed, c.loop-m.invariant.0, c.loop-m.invariant.1.long, c.loop-m-test.true)
-
 pub loop-m-smaller : goal.loop-m-smaller
 loop-m-smaller c = omega (arith, c.loop-m-test.true)
 

@@ -2,11 +2,8 @@
 use Rattle.second_sums.specs.Pairs.{next_pair}
 use Rattle.storage.specs.Rectangle.{by_rows}
 use Rattle.storage.specs.Filled.{Filled}
-use Prim.Native.Nat.{◌-◌, ◌*◌, ◌≤◌}
+use Prim.Native.Nat.{◌*◌, ◌≤◌}
 use Rattle.second_sums.proofs.inner_pairs.Given as goal
 
 abbrev pub invariant-loop-m : goal.invariant-loop-m
 invariant-loop-m l = (l.m ≤ l.last) × Filled 0 (by_rows (next_pair l.n l.at l.t l.pmm l.a l.b l.initial.rows) 2) (l.m * 2) l.initial.rows l.rows
-
-abbrev pub decreases-loop-m : goal.decreases-loop-m
-decreases-loop-m l = l.last - l.m

@@ -75,9 +75,6 @@ offset_bounds-s-at c = omega (arith, c.requires, c.well_formed, c.loop-m-test.tr
 pub bounds-s-at : goal.bounds-s-at
 bounds-s-at c = omega (arith, c.requires, c.well_formed, c.loop-m-test.true)
 
-pub overflow_add-m-in-loop-m-2 : goal.overflow_add-m-in-loop-m-2
-overflow_add-m-in-loop-m-2 c = omega (arith, c.requires, c.well_formed, c.loop-m-test.true)
-
 pub loop-m-smaller : goal.loop-m-smaller
 loop-m-smaller c = omega (arith, c.requires, c.well_formed, c.loop-m-test.true)
 

@@ -8,7 +8,7 @@ use Rattle.storage.specs.Elements.{from}
 use Rattle.number.specs.Float64.{of_whole}
 use lib.Ieee.{nan}
 use mathlib.Core.Path.{◌≡◌}
-use Prim.Native.Nat.{◌-◌, ◌≤◌}
+use Prim.Native.Nat.{◌≤◌}
 use Rattle.second_sums.proofs.row_sums.Given as goal
 
 abbrev pub invariant-loop-m : goal.invariant-loop-m
@@ -17,6 +17,3 @@ invariant-loop-m l = let f = scaled_pair l.rows l.r in
     (l.m ≤ l.count) × (l.mf ≡ of_whole l.m) × Window l.n v' f l.m l.p l.above l.behind l.d
     × OrdersBelow f (derived_row l.n v' f) (derived_row l.n v' (derived_row l.n v' f)) (from l.at l.c nan) (from l.at l.s nan) (cosine_from l.k l.trig) (sine_from l.k l.trig) l.m
     l.v l.lat l.latlat l.lon l.lonlon l.latlon
-
-abbrev pub decreases-loop-m : goal.decreases-loop-m
-decreases-loop-m l = l.count - l.m

@@ -1,7 +1,7 @@
 -- `average_check` meets its contract: each way through it has its law. Assumes nothing.
 use Rattle.slepian.specs.Average.{check_size, check_field, check_kernel, check_love, check_done}
 use native.Mathlib.Omega.{arith}
-use mathlib.Core.Path.{sym, ◌∙◌}
+use Rattle.refusal.proofs.Exits.{same_refusal}
 use Rattle.slepian.proofs.average_check.Goals as goal
 
 pub returns-then-kmax-gt-MAX_DEGREE : goal.returns-then-kmax-gt-MAX_DEGREE
@@ -9,17 +9,18 @@ returns-then-kmax-gt-MAX_DEGREE c = check_size _ _ _ _ _ _ _ (omega arith)
 
 pub returns-then-lacks : goal.returns-then-lacks
 returns-then-lacks c =
-    check_love _ _ _ _ _ _ _ (omega arith) (sym c.in-Done.is ∙ c.tables_check.ensures) (sym c.in-Done-tables_check.is ∙ c.tables_check-in-Done.ensures)
+    check_love _ _ _ _ _ _ _ (omega arith) c.in_ok-tables_check.ensures c.in_ok-tables_check-2.ensures
     c.if-lacks.true
 
-pub returns-in-Refused : goal.returns-in-Refused
-returns-in-Refused c = check_field _ _ _ _ _ _ _ (omega arith) (sym c.in-Refused.is ∙ c.tables_check.ensures)
+pub returns-in_err-tables_check : goal.returns-in_err-tables_check
+returns-in_err-tables_check c = same_refusal c.from_residual.ensures.1 (check_field _ _ _ _ _ _ _ (omega arith) c.in_err-tables_check.ensures)
 
-pub returns-in-Refused-tables_check : goal.returns-in-Refused-tables_check
-returns-in-Refused-tables_check c =
-    check_kernel _ _ _ _ _ _ _ (omega arith) (sym c.in-Done.is ∙ c.tables_check.ensures) (sym c.in-Refused-tables_check.is ∙ c.tables_check-in-Done.ensures)
+pub returns-in_err-tables_check-2 : goal.returns-in_err-tables_check-2
+returns-in_err-tables_check-2 c =
+    same_refusal c.from_residual-in_err-tables_check-2.ensures.1
+    (check_kernel _ _ _ _ _ _ _ (omega arith) c.in_ok-tables_check.ensures c.in_err-tables_check-2.ensures)
 
-pub returns-else-lacks : goal.returns-else-lacks
-returns-else-lacks c =
-    check_done _ _ _ _ _ _ _ (omega arith) (sym c.in-Done.is ∙ c.tables_check.ensures) (sym c.in-Done-tables_check.is ∙ c.tables_check-in-Done.ensures)
+pub returns : goal.returns
+returns c =
+    check_done _ _ _ _ _ _ _ (omega arith) c.in_ok-tables_check.ensures c.in_ok-tables_check-2.ensures
     c.if-lacks.false

@@ -23,6 +23,11 @@ overflow_add-at c =
     let w = row_within c.loop-n.n c.args.top (omega arith) (omega arith) in
     omega arith
 
+pub overflow_add-at-in-loop-n : goal.overflow_add-at-in-loop-n
+overflow_add-at-in-loop-n c =
+    let w = row_within c.loop-n.n c.args.top (omega arith) (omega arith) in
+    omega arith
+
 pub loop-n-preserved : goal.loop-n-preserved
 loop-n-preserved c =
     let more = row_start_more c.loop-n.n in

@@ -5,11 +5,8 @@ use Rattle.rounding.specs.Sums.{triangle_sum}
 use Rattle.slepian.specs.Average.{terms}
 use lib.Ieee.{binary64}
 use mathlib.Core.Path.{◌≡◌}
-use Prim.Native.Nat.{◌+◌, ◌-◌, ◌≤◌}
+use Prim.Native.Nat.{◌+◌, ◌≤◌}
 use Rattle.slepian.proofs.sum_degrees.Given as goal
 
 abbrev pub invariant-loop-n : goal.invariant-loop-n
 invariant-loop-n l = (l.n ≤ l.top + 1) × (l.at ≡ row_start l.n) × (l.sum ≡ triangle_sum binary64 (terms l.c l.s l.kc l.ks (factor_of l.functional l.love l.gm l.radius l.r)) l.n)
-
-abbrev pub decreases-loop-n : goal.decreases-loop-n
-decreases-loop-n l = l.top + 1 - l.n

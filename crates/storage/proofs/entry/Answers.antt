@@ -4,7 +4,7 @@ use Rattle.storage.specs.Answers.{size_is, placed}
 use Rattle.storage.specs.Checks.{entry_size, entry_length, entry_at}
 use native.Mathlib.Omega.{arith}
 use mathlib.Core.Path.{sym, ◌∙◌}
-use borrow.Author.Rules.{rules}
+use Rattle.refusal.proofs.Exits.{same_refusal}
 use Rattle.storage.proofs.entry.Goals as goal
 
 pub returns-then-nmax-gt-MAX_DEGREE : goal.returns-then-nmax-gt-MAX_DEGREE
@@ -18,26 +18,25 @@ returns-then-table-table_size c =
 
 pub offset_bounds-table-k : goal.offset_bounds-table-k
 offset_bounds-table-k c =
-    let at = sym c.in-At.is ∙ c.place.ensures in
+    let at = sym c.in_ok-k.was ∙ c.place.ensures in
     let p = placed _ _ _ _ at in
     omega (arith, table_size_most c.args.nmax p.top)
 
 pub bounds-table-k : goal.bounds-table-k
 bounds-table-k c =
     let a = c.args in
-    let at = sym c.in-At.is ∙ c.place.ensures in
+    let at = sym c.in_ok-k.was ∙ c.place.ensures in
     let p = placed _ _ _ _ at in
     let z = c.table_size.ensures ∙ size_is a.nmax (omega arith) in
     omega arith
 
-pub returns-in-Refused : goal.returns-in-Refused
-returns-in-Refused c =
+pub returns : goal.returns
+returns c =
     let a = c.args in
     let z = c.table_size.ensures ∙ size_is a.nmax (omega arith) in
-    entry_at _ _ _ _ (omega arith) (omega arith) (sym c.in-Refused.is ∙ c.place.ensures)
+    entry_at _ _ _ _ (omega arith) (omega arith) (sym c.in_ok-k.was ∙ c.place.ensures)
 
-pub returns-in-At : goal.returns-in-At
-returns-in-At c =
-    let a = c.args in
-    let z = c.table_size.ensures ∙ size_is a.nmax (omega arith) in
-    entry_at _ _ _ _ (omega arith) (omega arith) (sym c.in-At.is ∙ c.place.ensures)
+pub returns-in_err-k : goal.returns-in_err-k
+returns-in_err-k c =
+    let z = c.table_size.ensures ∙ size_is c.args.nmax (omega arith) in
+    same_refusal c.from_residual.ensures.1 (entry_at _ _ _ _ (omega arith) (omega arith) c.in_err-k.ensures)

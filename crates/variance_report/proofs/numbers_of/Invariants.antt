@@ -2,12 +2,7 @@ use lib.ListN.{drop}
 use Rattle.storage.specs.Store.{store}
 use Rattle.variance_report.specs.Report.{numbers_of}
 use mathlib.Core.Path.{◌≡◌}
-use Prim.Native.Nat.{◌-◌, ◌≤◌}
-use lib.ListN.{length}
 use Rattle.variance_report.proofs.numbers_of.Given as goal
 
 abbrev pub invariant-loop-k : goal.invariant-loop-k
-invariant-loop-k l = (l.k ≤ length l.bits) × (length l.out ≡ length l.initial.out) × (store l.k (drop l.k (numbers_of l.bits)) l.out ≡ store 0 (numbers_of l.bits) l.initial.out)
-
-abbrev pub decreases-loop-k : goal.decreases-loop-k
-decreases-loop-k l = length l.bits - l.k
+invariant-loop-k l = store l.k (drop l.k (numbers_of l.bits)) l.out ≡ store 0 (numbers_of l.bits) l.initial.out

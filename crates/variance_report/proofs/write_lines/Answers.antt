@@ -9,7 +9,7 @@ use lib.ListN.{length}
 use Rattle.variance_report.proofs.write_lines.Goals as goal
 
 pub loop-n-init : goal.loop-n-init
-loop-n-init c = (omega arith, omega arith, refl, refl, refl)
+loop-n-init c = (omega arith, refl, refl)
 
 pub loop-n-preserved : goal.loop-n-preserved
 loop-n-preserved c =
@@ -17,17 +17,15 @@ loop-n-preserved c =
     let vs = c.args.variances.now in
     let w = c.write_line-at in
     let b = c.bits_of_number in (
-      omega arith,
       omega (arith, length-line l.n b.result, length_decimal l.n (omega arith)),
-      w.auto.out ∙ l.invariant.2,
-      lines_length vs nan _ _ _ _ (omega arith) b.ensures w.ensures.value ∙ l.invariant.3,
-      lines_turn vs nan _ _ _ _ (omega arith) b.ensures w.ensures.value _ _ w.ensures.out_after ∙ l.invariant.4,
+      lines_length vs nan _ _ _ _ (omega arith) b.ensures w.ensures.value ∙ l.invariant.1,
+      lines_turn vs nan _ _ _ _ (omega arith) b.ensures w.ensures.value _ _ w.ensures.out_after ∙ l.invariant.2,
     )
 
 pub returns : goal.returns
 returns c =
     let z = lines_none c.args.variances.now c.loop-n.n (omega arith) in record {
-      value = omega (arith, c.loop-n.invariant.3, ap length z);
+      value = omega (arith, c.loop-n.invariant.1, ap length z);
       out_after = sym (store_none c.loop-n.at c.loop-n.out) ∙ ap (λ (t : List ℕ). store c.loop-n.at t c.loop-n.out) (sym z)
-          ∙ c.loop-n.invariant.4;
+          ∙ c.loop-n.invariant.2;
     }

@@ -14,4 +14,4 @@ pub bounds-out-9 : goal.bounds-out-9
 bounds-out-9 c = simp length-set (omega arith)
 
 pub returns : goal.returns
-returns c = record { value = refl; out_after = refused_parts _ _ _ _ c.refusal_number.ensures c.write_bytes.ensures.out_after }
+returns c = record { value = refl; out_after = refused_parts _ _ _ _ c.from.ensures c.write_bytes.ensures.out_after }

@@ -40,10 +40,6 @@ add_row-requires c =
     let h : c.loop-i.i + 1 ≤ c.args.nmax + 1 = omega (arith, test) in
     let up = mul-le-mul_right c.args.longitudes h in record { row_room = room_kept q.row_room l.4 l.5 l.6 l.7 l.2.long l.3.long; filled_1 = q.filled_1; filled_2 = omega (arith, q.row_room.top, q.longitudes_value_1); filled_3 = omega (arith, q.longitudes_value_2, l.1, up); filled_4 = q.longitudes_value_3 }
 
-pub overflow_add-i : goal.overflow_add-i
-overflow_add-i c =
-    omega (arith, c.requires.row_room.top, c.loop-i-test.true)
-
 pub overflow_add-at : goal.overflow_add-at
 overflow_add-at c =
     let q = c.requires in

@@ -27,12 +27,6 @@ add_node-requires c =
       lmax_in_bounds_4 = omega arith;
     }
 
-pub overflow_add-v : goal.overflow_add-v
-overflow_add-v c =
-    let few = c.requires.node_lists_to_1.few in
-    let test = c.loop-v-test.true in
-    omega arith
-
 pub loop-v-smaller : goal.loop-v-smaller
 loop-v-smaller c =
     let test = c.loop-v-test.true in

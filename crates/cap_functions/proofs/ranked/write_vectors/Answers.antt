@@ -1,14 +1,13 @@
 -- `ranked::write_vectors` meets its contract: the vectors of i functions are written. Assumes nothing.
 use native.Mathlib.Omega.{arith}
-use borrow.Author.Rules.{rules}
 use mathlib.Core.Path.{◌≡◌, refl, ap, ◌∙◌}
-use Prim.Native.Nat.{ℕ, ◌-◌, ◌≤◌, ◌<◌}
+use Prim.Native.Nat.{ℕ, ◌<◌}
 use lib.ListN.{length}
 use lib.ListN.{get_or, take}
 use lib.Ieee.{nan}
 use mathlib.Core.List.{flatten}
 use Rattle.storage.specs.Elements.{from}
-use Rattle.storage.specs.Filled.{Filled, filled_none, filled_to, filled_same}
+use Rattle.storage.specs.Filled.{filled_none, filled_to, filled_same}
 use Rattle.caps.specs.Caps.{degrees}
 use Rattle.ranking.specs.Rankings.{joined}
 use Rattle.cap_functions.specs.CapRanked.{run_at, run_more, run_within, run_filled}
@@ -26,41 +25,41 @@ bounds-places-i c = omega (arith, c.requires.fact_1.long)
 
 pub offset_bounds-order-f : goal.offset_bounds-order-f
 offset_bounds-order-f c =
-    let inside : c.index-f.result < c.args.n = (let f = c.requires.fact_1.inside c.loop-i.i c.loop-i-test.true in omega arith) in
+    let inside : c.from-f.result < c.args.n = (let f = c.requires.fact_1.inside c.loop-i.i c.loop-i-test.true in omega arith) in
     omega (arith, inside, c.requires.fact_2.of_orders)
 
 pub bounds-order-f : goal.bounds-order-f
 bounds-order-f c =
-    let inside : c.index-f.result < c.args.n = (let f = c.requires.fact_1.inside c.loop-i.i c.loop-i-test.true in omega arith) in
+    let inside : c.from-f.result < c.args.n = (let f = c.requires.fact_1.inside c.loop-i.i c.loop-i-test.true in omega arith) in
     omega (arith, inside, c.requires.fact_2.of_orders)
 
 pub overflow_sub-k : goal.overflow_sub-k
 overflow_sub-k c =
-    let inside : c.index-f.result < c.args.n = (let f = c.requires.fact_1.inside c.loop-i.i c.loop-i-test.true in omega arith) in
-    c.requires.fact_2.order c.index-f.result inside
+    let inside : c.from-f.result < c.args.n = (let f = c.requires.fact_1.inside c.loop-i.i c.loop-i-test.true in omega arith) in
+    c.requires.fact_2.order c.from-f.result inside
 
 pub overflow_add-k : goal.overflow_add-k
 overflow_add-k c = omega (arith, c.requires.fact_2.few)
 
 pub offset_bounds-starts-f : goal.offset_bounds-starts-f
 offset_bounds-starts-f c =
-    let inside : c.index-f.result < c.args.n = (let f = c.requires.fact_1.inside c.loop-i.i c.loop-i-test.true in omega arith) in
+    let inside : c.from-f.result < c.args.n = (let f = c.requires.fact_1.inside c.loop-i.i c.loop-i-test.true in omega arith) in
     omega (arith, inside, c.requires.fact_2.of_starts)
 
 pub bounds-starts-f : goal.bounds-starts-f
 bounds-starts-f c =
-    let inside : c.index-f.result < c.args.n = (let f = c.requires.fact_1.inside c.loop-i.i c.loop-i-test.true in omega arith) in
+    let inside : c.from-f.result < c.args.n = (let f = c.requires.fact_1.inside c.loop-i.i c.loop-i-test.true in omega arith) in
     let r = c.requires.fact_2 in
     omega (arith, inside, r.of_starts)
 
 pub copy_run-requires : goal.copy_run-requires
 copy_run-requires c =
-    let inside : c.index-f.result < c.args.n = (let f = c.requires.fact_1.inside c.loop-i.i c.loop-i-test.true in omega arith) in
+    let inside : c.from-f.result < c.args.n = (let f = c.requires.fact_1.inside c.loop-i.i c.loop-i-test.true in omega arith) in
     let loop = c.loop-i in
     let a = c.args in
     let w = run_within a.lmax a.n a.order.now a.starts.now a.places.now a.work.now c.requires.fact_1
-    loop.i c.loop-i-test.true loop.invariant.1 (ap (λ (f : ℕ). degrees a.lmax (get_or a.order.now f 0)) c.index-f.ensures) in
-    record { fact_1 = c.requires.fact_2.inside c.index-f.result inside; fact_2 = omega (arith, w, c.requires.fact_3, loop.invariant.2.long) }
+    loop.i c.loop-i-test.true loop.invariant.1 (ap (λ (f : ℕ). degrees a.lmax (get_or a.order.now f 0)) c.from-f.ensures) in
+    record { fact_1 = c.requires.fact_2.inside c.from-f.result inside; fact_2 = omega (arith, w, c.requires.fact_3, loop.invariant.2.long) }
 
 pub overflow_add-v : goal.overflow_add-v
 overflow_add-v c =
@@ -68,7 +67,7 @@ overflow_add-v c =
     let a = c.args in
     let w = run_within a.lmax a.n a.order.now a.starts.now a.places.now a.work.now c.requires.fact_1
     loop.i c.loop-i-test.true loop.invariant.1
-    (ap (λ (f : ℕ). degrees a.lmax (get_or a.order.now f 0)) c.index-f.ensures) in
+    (ap (λ (f : ℕ). degrees a.lmax (get_or a.order.now f 0)) c.from-f.ensures) in
     let long = loop.invariant.2.long in
     omega (arith, w, c.requires.fact_3)
 
@@ -79,12 +78,12 @@ loop-i-preserved c =
     let a = c.args in
     let copied =
     filled_same (from (get_or a.starts.now (get_or a.places.now loop.i 0) 0) a.work.now nan) c.copy_run.ensures
-    (λ j h. ap (λ (f : ℕ). from (get_or a.starts.now f 0) a.work.now nan j) c.index-f.ensures) in (
+    (λ j h. ap (λ (f : ℕ). from (get_or a.starts.now f 0) a.work.now nan j) c.from-f.ensures) in (
       omega arith,
       run_more a.lmax a.n a.order.now a.starts.now a.places.now a.work.now c.requires.fact_1
-          loop.i b loop.invariant.1 (ap (λ (f : ℕ). degrees a.lmax (get_or a.order.now f 0)) c.index-f.ensures),
+          loop.i b loop.invariant.1 (ap (λ (f : ℕ). degrees a.lmax (get_or a.order.now f 0)) c.from-f.ensures),
       run_filled a.lmax a.n a.order.now a.starts.now a.places.now a.work.now c.requires.fact_1
-          loop.i b loop.invariant.1 (ap (λ (f : ℕ). degrees a.lmax (get_or a.order.now f 0)) c.index-f.ensures) loop.invariant.2 copied,
+          loop.i b loop.invariant.1 (ap (λ (f : ℕ). degrees a.lmax (get_or a.order.now f 0)) c.from-f.ensures) loop.invariant.2 copied,
     )
 
 pub returns : goal.returns

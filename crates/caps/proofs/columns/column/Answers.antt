@@ -1,6 +1,6 @@
 -- `column` meets its contract: the last number of the column and the one before it. Assumes nothing.
-use Rattle.caps.specs.Columns.{column_cell, before, column_first, before_first, before_next, column_more, next_at}
-use Rattle.storage.specs.Filled.{Filled, filled_none, filled_more, filled_to}
+use Rattle.caps.specs.Columns.{column_cell, column_first, before_first, before_next, column_more, next_at}
+use Rattle.storage.specs.Filled.{filled_none, filled_more, filled_to}
 use Rattle.storage.specs.Elements.{from}
 use Rattle.storage.specs.Triangle.{idx}
 use Rattle.recursion.specs.Recursion.{q}
@@ -8,7 +8,7 @@ use Rattle.number.specs.Float64.{◌⊗◌}
 use lib.Ieee.{Float, nan}
 use native.Mathlib.Omega.{arith}
 use mathlib.Core.Path.{◌≡◌, sym, ap, ◌∙◌}
-use Prim.Native.Nat.{ℕ, ◌+◌, ◌-◌, ◌≤◌}
+use Prim.Native.Nat.{ℕ, ◌+◌}
 use Rattle.caps.proofs.columns.column.Goals as goal
 
 pub loop-i-init : goal.loop-i-init
@@ -31,6 +31,10 @@ overflow_add-at c = let s = next_at c.args.m c.args.k c.loop-i.i c.loop-i.invari
 
 pub overflow_add-at-in-loop-i : goal.overflow_add-at-in-loop-i
 overflow_add-at-in-loop-i c = let s = next_at c.args.m c.args.k c.loop-i.i c.loop-i.invariant.1
+    c.loop-i-test.true in omega (arith, s.is, s.inside)
+
+pub overflow_add-at-in-loop-i-2 : goal.overflow_add-at-in-loop-i-2
+overflow_add-at-in-loop-i-2 c = let s = next_at c.args.m c.args.k c.loop-i.i c.loop-i.invariant.1
     c.loop-i-test.true in omega (arith, s.is, s.inside)
 
 pub offset_bounds-work-at : goal.offset_bounds-work-at

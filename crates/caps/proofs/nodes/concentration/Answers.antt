@@ -1,16 +1,13 @@
 -- `concentration` meets its contract: the nodes below i are added. Assumes nothing.
-use Rattle.caps.specs.Nodes.{partial_cell, nodes_none, nodes_more, nodes_all, tables_kept, room_kept}
-use Rattle.storage.specs.Filled.{Filled, filled_self, filled_in, filled_again}
-use Rattle.storage.specs.Rectangle.{by_rows}
+use Rattle.caps.specs.Nodes.{nodes_none, nodes_more, nodes_all, tables_kept, room_kept}
+use Rattle.storage.specs.Filled.{filled_self, filled_in, filled_again}
 use Rattle.number.specs.Float64.{◌⊗◌}
 use native.Mathlib.Nat.{zero-add, le_refl}
 use lib.ListN.{get_or}
 use lib.Ieee.{Float, nan}
-use borrow.Author.Rules.{rules}
 use native.Mathlib.Omega.{arith}
-use mathlib.Core.Path.{◌≡◌, refl, sym, ap, ◌∙◌}
-use Prim.Native.Nat.{◌+◌, ◌-◌, ◌*◌, ◌≤◌}
-use lib.ListN.{length}
+use mathlib.Core.Path.{refl, sym, ap, ◌∙◌}
+use Prim.Native.Nat.{◌*◌}
 use Rattle.caps.proofs.nodes.concentration.Goals as goal
 
 pub clear-requires : goal.clear-requires
@@ -42,9 +39,6 @@ node-requires c =
           c.loop-i.invariant.1
           (c.loop-i.invariant.2.long ∙ c.clear.ensures.long);
     }
-
-pub overflow_add-i : goal.overflow_add-i
-overflow_add-i c = omega (arith, c.loop-i-test.true, c.requires.sectoral_value_3.small, c.requires.sectoral_value_5)
 
 pub loop-i-preserved : goal.loop-i-preserved
 loop-i-preserved c =

@@ -1,31 +1,31 @@
 -- `Head::degree_variances` meets its contract: each way through its checks, and the variances past them. Assumes nothing.
 use borrow.Author.Tests.{le-leb, lt-leb}
-use Rattle.refusal.specs.Numbers.{refuse_yes, refuse_no}
-use Rattle.storage.specs.Checks.{tables_passed, refused_then, done_then}
+use Rattle.refusal.specs.Numbers.{refuse_yes, refuse_no, done_then, refused_then}
+use Rattle.storage.specs.Checks.{tables_passed}
 use Rattle.coefficients.specs.Checks.{variances_check}
 use native.Mathlib.Omega.{arith}
-use mathlib.Core.Path.{refl, sym, ◌∙◌}
-use borrow.Author.Rules.{rules}
+use mathlib.Core.Path.{refl, sym}
+use Rattle.refusal.proofs.Exits.{same_refusal}
 use Rattle.coefficients.proofs.Head.degree_variances.Goals as goal
 
 pub returns-then-out-nmax : goal.returns-then-out-nmax
 unfolding variances_check
 returns-then-out-nmax c =
-    let ok = sym c.in-Done.is ∙ c.tables_check.ensures in
+    let ok = c.in_ok-tables_check.ensures in
     record { value = done_then ok (sym (refuse_yes _ _ (le-leb _ _ c.if-out-nmax.true))); out_after = refl }
 
 pub variances-requires : goal.variances-requires
 variances-requires c =
-    let ok = sym c.in-Done.is ∙ c.tables_check.ensures in
+    let ok = c.in_ok-tables_check.ensures in
     let t = tables_passed _ _ _ ok in
     record { fact_1 = t.top; fact_2 = omega arith; fact_3 = omega arith; fact_4 = omega arith }
 
-pub returns-in-Refused : goal.returns-in-Refused
+pub returns-in_err-tables_check : goal.returns-in_err-tables_check
 unfolding variances_check
-returns-in-Refused c = record { value = refused_then _ _ (sym c.in-Refused.is ∙ c.tables_check.ensures); out_after = refl }
+returns-in_err-tables_check c = rw (same_refusal c.from_residual.ensures.1 refl) (record { value = refused_then _ _ c.in_err-tables_check.ensures; out_after = refl })
 
-pub returns-else-out-nmax : goal.returns-else-out-nmax
+pub returns : goal.returns
 unfolding variances_check
-returns-else-out-nmax c =
-    let ok = sym c.in-Done.is ∙ c.tables_check.ensures in
+returns c =
+    let ok = c.in_ok-tables_check.ensures in
     record { value = done_then ok (sym (refuse_no _ _ (lt-leb _ _ c.if-out-nmax.false))); out_after = c.variances.ensures.is }

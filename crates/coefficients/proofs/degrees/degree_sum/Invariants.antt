@@ -1,14 +1,10 @@
 -- `degrees::degree_sum` meets its contract: the sum so far is that of the orders below m. Assumes nothing.
-use Rattle.coefficients.specs.Values.{squares_from, squares_product}
+use Rattle.coefficients.specs.Values.{squares_from}
 use Rattle.number.specs.Float64.{◌⊕◌, zero64}
-use Rattle.storage.specs.Fold.{fold_left, fold_none, fold_more}
-use native.Mathlib.Omega.{arith}
-use mathlib.Core.Path.{◌≡◌, sym, ap, ◌∙◌}
-use Prim.Native.Nat.{◌+◌, ◌-◌, ◌≤◌}
+use Rattle.storage.specs.Fold.{fold_left}
+use mathlib.Core.Path.{◌≡◌}
+use Prim.Native.Nat.{◌≤◌}
 use Rattle.coefficients.proofs.degrees.degree_sum.Given as goal
 
 abbrev pub invariant-loop-m : goal.invariant-loop-m
 invariant-loop-m l = (l.m ≤ l.count) × (l.sum ≡ fold_left ◌⊕◌ (squares_from l.at l.c l.s) zero64 l.m)
-
-abbrev pub decreases-loop-m : goal.decreases-loop-m
-decreases-loop-m l = l.count - l.m

@@ -1,9 +1,5 @@
 -- `geopotential_analysis` meets its contract. Assumes nothing.
 use Rattle.geopotential.specs.Analyses.{analysis_answer, analysis_unknown, analysis_known}
-use Rattle.coefficients.specs.Model.{outcome}
-use Rattle.geopotential.specs.Models.{after_length}
-use Rattle.storage.specs.Fill.{length-fill}
-use borrow.Author.Rules.{rules}
 use Rattle.geopotential.proofs.analyses.geopotential_analysis.Goals as goal
 
 pub returns-then-functional-gt5 : goal.returns-then-functional-gt5
@@ -17,5 +13,5 @@ returns c =
     let f = c.analysis.ensures in
     let all = analysis_known _ _ _ _ _ _ _ _ _ _ _ _ _ _ _ _ _ c.if-functional-gt5.false
     c.functional_of-f.ensures f.value
-    c.model_number.ensures f.c_after f.s_after f.work_unchanged f.work_len_unchanged in
+    c.result_number.ensures f.c_after f.s_after f.work_unchanged f.work_len_unchanged in
     record { value = all.0; c_after = all.1.0; s_after = all.1.1.0; work_unchanged = all.1.1.1.0; work_len_unchanged = all.1.1.1.1 }

@@ -1,14 +1,11 @@
 -- `geopotential_basin_kernel` meets its contract. Assumes nothing.
-use Rattle.storage.specs.Fill.{length-fill}
-use Rattle.coefficients.specs.Model.{outcome}
 use Rattle.coefficients.specs.Values.{zero_head}
 use Rattle.number.specs.Float64.{one64}
 use Rattle.basin_kernel.specs.Kernel.{kernel_check}
-use Rattle.geopotential.specs.Models.{outcome_is, after_length}
-use mathlib.Core.Path.{◌≡◌}
+use mathlib.Core.Path.{◌≡◌, ◌∙◌}
 use lib.ListN.{length}
-use borrow.Author.Rules.{rules}
 use Rattle.geopotential.proofs.basins.geopotential_basin_kernel.Goals as goal
+use Rattle.refusal.specs.Numbers.{number_is, outcome, outcome_is}
 
 pub returns : goal.returns
 returns c =
@@ -17,4 +14,4 @@ returns c =
     let check = kernel_check a.lmax a.nodes (length a.weights.now) (length a.latitudes.now) (length a.marks.now) (length a.s.now)
     (length a.c.now) (length a.work.now) (length a.kc.now) (length a.ks.now) in
     let e : outcome f.result ≡ check = outcome_is check (zero_head one64 one64 a.lmax) f.ensures.value in
-    record { value = rw (← e) c.model_number.ensures; kc_after = rw (← e) f.ensures.kc_after; ks_after = rw (← e) f.ensures.ks_after; work_unchanged_1 = rw (← e) f.ensures.work_unchanged_1; work_unchanged_2 = f.ensures.work_unchanged_2 }
+    record { value = c.result_number.ensures ∙ number_is check (zero_head one64 one64 a.lmax) f.ensures.value; kc_after = rw (← e) f.ensures.kc_after; ks_after = rw (← e) f.ensures.ks_after; work_unchanged_1 = rw (← e) f.ensures.work_unchanged_1; work_unchanged_2 = f.ensures.work_unchanged_2 }

@@ -1,7 +1,4 @@
 -- `geopotential_grid` meets its contract. Assumes nothing.
-use borrow.Author.Rules.{rules}
-use Rattle.storage.specs.Fill.{length-fill}
-use Rattle.geopotential.specs.Models.{after_length}
 use Rattle.geopotential.specs.Fields.{grid_answer, grid_unknown, grid_known}
 use Rattle.geopotential.proofs.fields.geopotential_grid.Goals as goal
 
@@ -13,7 +10,7 @@ returns-then-functional-gt5 c =
 pub returns : goal.returns
 unfolding grid_answer
 returns c =
-    let all = grid_known _ _ _ _ _ _ _ _ _ _ _ _ _ _ _ c.if-functional-gt5.false c.functional_of-f.ensures c.grid.ensures.value c.answer_number.ensures c.grid.ensures.out_after
+    let all = grid_known _ _ _ _ _ _ _ _ _ _ _ _ _ _ _ c.if-functional-gt5.false c.functional_of-f.ensures c.grid.ensures.value c.result_number.ensures c.grid.ensures.out_after
     c.grid.ensures.work_unchanged c.grid.ensures.work_len_unchanged
     c.grid.ensures.by_index in
     record { value = all.0; out_after = all.1.0; work_unchanged = all.1.1.0; work_len_unchanged = all.1.1.1.0; by_index = all.1.1.1.1 }

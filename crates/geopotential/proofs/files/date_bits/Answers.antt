@@ -8,8 +8,8 @@ use mathlib.Core.Path.{sym, ap, ◌∙◌}
 use borrow.Author.Rules.{rules}
 use Rattle.geopotential.proofs.files.date_bits.Goals as goal
 
-pub returns-in-Days : goal.returns-in-Days
-returns-in-Days c =
-    let f : SFits w32 c.in-Days.days = search rules in
-    c.days_pattern.ensures ∙ ap pattern_of (to_z-of_z w32 c.in-Days.days f) ∙ sym
-    (ap date_bits c.in-Days.is)
+pub returns-in-Some : goal.returns-in-Some
+returns-in-Some c =
+    let f : SFits w32 c.in-Some.days = search rules in
+    c.days_pattern.ensures ∙ ap pattern_of (to_z-of_z w32 c.in-Some.days f) ∙ sym
+    (ap date_bits c.in-Some.is)

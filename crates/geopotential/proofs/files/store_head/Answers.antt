@@ -1,8 +1,10 @@
 -- `store_head` meets its contract. Assumes nothing.
+use mathlib.Core.Path.{ap, ◌∙◌}
+use Rattle.std.specs.Int.{from_bool}
+use Rattle.coefficients.specs.Model.{dated_is}
 use Rattle.geopotential.specs.Files.{words_stored}
 use lib.ListN.{length-set}
 use native.Mathlib.Omega.{arith}
-use borrow.Author.Rules.{rules}
 use Rattle.geopotential.proofs.files.store_head.Goals as goal
 
 pub bounds-out-1 : goal.bounds-out-1
@@ -23,7 +25,4 @@ bounds-out-5 c = simp length-set (omega arith)
 pub returns : goal.returns
 returns c =
     let a = c.args in
-    let tide-number = c.tide_number-tide in
-    let dated-number = c.dated_number in
-    words_stored a.h tide-number.result dated-number.result c.date_bits.result a.out.now tide-number.ensures
-    dated-number.ensures c.date_bits.ensures
+    words_stored a.h _ _ c.date_bits.result a.out.now (c.from-tide.ensures ∙ c.from.ensures) (c.from-2.ensures ∙ ap from_bool c.is_some.ensures ∙ dated_is a.h.date) c.date_bits.ensures

@@ -1,9 +1,8 @@
 -- `geopotential_grid_lengths` meets its contract. Assumes nothing.
-use Rattle.lengths.specs.Told.{numbered, told_length}
-use borrow.Author.Rules.{rules}
+use Rattle.lengths.specs.Told.{numbered}
 use Rattle.geopotential.proofs.lists.geopotential_grid_lengths.Goals as goal
 
 pub returns : goal.returns
 returns c =
-    let all = numbered _ _ _ (c.grid.ensures.value, c.grid.ensures.lengths_after) c.answer_number.ensures in
+    let all = numbered _ _ _ (c.grid.ensures.value, c.grid.ensures.lengths_after) c.result_number.ensures in
     record { value = all.0; lengths_after = all.1 }

@@ -1,8 +1,5 @@
 -- `geopotential_degree_amplitudes` meets its contract. Assumes nothing.
-use borrow.Author.Rules.{rules}
 use Rattle.geopotential.specs.Models.{amplitudes_unknown, amplitudes_known}
-use Rattle.storage.specs.Fill.{length-fill}
-use Rattle.geopotential.specs.Models.{after_length}
 use Rattle.geopotential.proofs.models.geopotential_degree_amplitudes.Goals as goal
 
 pub returns-then-functional-gt5 : goal.returns-then-functional-gt5
@@ -12,6 +9,6 @@ returns-then-functional-gt5 c =
 
 pub returns : goal.returns
 returns c =
-    let all = amplitudes_known _ _ _ _ _ _ _ _ c.if-functional-gt5.false c.functional_of-f.ensures c.degree_amplitudes.ensures.value c.answer_number.ensures
+    let all = amplitudes_known _ _ _ _ _ _ _ _ c.if-functional-gt5.false c.functional_of-f.ensures c.degree_amplitudes.ensures.value c.result_number.ensures
     c.degree_amplitudes.ensures.out_after in
     record { value = all.0; out_after = all.1 }

@@ -1,15 +1,12 @@
 -- `geopotential_rescaled` meets its contract. Assumes nothing.
-use borrow.Author.Rules.{rules}
-use mathlib.Core.Path.{◌≡◌}
-use Rattle.coefficients.specs.Model.{outcome}
-use Rattle.geopotential.specs.Models.{same_check, outcome_is}
-use Rattle.storage.specs.Fill.{length-fill}
-use Rattle.geopotential.specs.Models.{after_length}
+use mathlib.Core.Path.{◌≡◌, ◌∙◌}
+use Rattle.geopotential.specs.Models.{same_check}
 use Rattle.geopotential.proofs.models.geopotential_rescaled.Goals as goal
+use Rattle.refusal.specs.Numbers.{number_is, outcome, outcome_is}
 
 pub returns : goal.returns
 returns c =
     let a = c.args in
     let check = same_check a.nmax a.c.now a.s.now a.outc.now a.outs.now in
     let e : outcome c.rescaled.result ≡ check = outcome_is check _ c.rescaled.ensures.value in
-    record { value = rw (← e) c.model_number.ensures; outc_after = rw (← e) c.rescaled.ensures.outc_after; outs_after = rw (← e) c.rescaled.ensures.outs_after }
+    record { value = c.result_number.ensures ∙ number_is check _ c.rescaled.ensures.value; outc_after = rw (← e) c.rescaled.ensures.outc_after; outs_after = rw (← e) c.rescaled.ensures.outs_after }

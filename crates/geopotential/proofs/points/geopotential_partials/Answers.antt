@@ -1,12 +1,9 @@
 -- `geopotential_partials` meets its contract: one point is a list of one. Assumes nothing.
 use Rattle.geopotential.specs.Points.{one_check, one_point}
-use Rattle.geopotential.specs.Models.{after_length}
-use Rattle.storage.specs.Fill.{length-fill}
 use Rattle.refusal.specs.Numbers.{after}
 use mathlib.Core.List.{List}
 use lib.Ieee.{Float}
 use mathlib.Core.Path.{ap, ◌∙◌}
-use borrow.Author.Rules.{rules}
 use Rattle.geopotential.proofs.points.geopotential_partials.Goals as goal
 
 pub returns : goal.returns
@@ -14,7 +11,7 @@ returns c =
     let a = c.args in
     let f = c.partials_along in
     let e = f.ensures.value ∙ one_check 4 4 a.nmax _ _ _ _ _ in record {
-      value = rw (← e) c.answer_number.ensures;
+      value = rw (← e) c.result_number.ensures;
       out_after = rw (← e)
           (f.ensures.out_after
           ∙ ap (λ (o : List Float). after f.result o a.out.now) (one_point a.gm a.radius a.nmax a.c.now a.s.now a.trig.now

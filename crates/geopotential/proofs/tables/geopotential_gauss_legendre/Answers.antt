@@ -1,10 +1,7 @@
 -- `geopotential_gauss_legendre` meets its contract. Assumes nothing.
-use borrow.Author.Rules.{rules}
-use Rattle.storage.specs.Fill.{length-fill}
-use Rattle.geopotential.specs.Models.{after_length}
 use Rattle.geopotential.proofs.tables.geopotential_gauss_legendre.Goals as goal
 
 pub returns : goal.returns
 returns c =
     let e = c.gauss_legendre.ensures.value in
-    record { value = rw (← e) c.answer_number.ensures; x_after = rw (← e) c.gauss_legendre.ensures.x_after; w_after = rw (← e) c.gauss_legendre.ensures.w_after }
+    record { value = rw (← e) c.result_number.ensures; x_after = rw (← e) c.gauss_legendre.ensures.x_after; w_after = rw (← e) c.gauss_legendre.ensures.w_after }

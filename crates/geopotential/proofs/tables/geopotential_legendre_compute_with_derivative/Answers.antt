@@ -1,10 +1,7 @@
 -- `geopotential_legendre_compute_with_derivative` meets its contract. Assumes nothing.
-use borrow.Author.Rules.{rules}
-use Rattle.storage.specs.Fill.{length-fill}
-use Rattle.geopotential.specs.Models.{after_length}
 use Rattle.geopotential.proofs.tables.geopotential_legendre_compute_with_derivative.Goals as goal
 
 pub returns : goal.returns
 returns c =
     let e = c.compute_with_derivative.ensures.value in
-    record { value = rw (← e) c.answer_number.ensures; p_after = rw (← e) c.compute_with_derivative.ensures.p_after; dp_after = rw (← e) c.compute_with_derivative.ensures.dp_after }
+    record { value = rw (← e) c.result_number.ensures; p_after = rw (← e) c.compute_with_derivative.ensures.p_after; dp_after = rw (← e) c.compute_with_derivative.ensures.dp_after }

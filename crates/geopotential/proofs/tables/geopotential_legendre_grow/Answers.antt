@@ -1,10 +1,7 @@
 -- `geopotential_legendre_grow` meets its contract. Assumes nothing.
-use borrow.Author.Rules.{rules}
-use Rattle.legendre.specs.Grown.{length-grown}
-use Rattle.geopotential.specs.Models.{after_length}
 use Rattle.geopotential.proofs.tables.geopotential_legendre_grow.Goals as goal
 
 pub returns : goal.returns
 returns c =
     let e = c.grow.ensures.value in
-    record { value = rw (← e) c.answer_number.ensures; a_after = rw (← e) c.grow.ensures.a_after; b_after = rw (← e) c.grow.ensures.b_after }
+    record { value = rw (← e) c.result_number.ensures; a_after = rw (← e) c.grow.ensures.a_after; b_after = rw (← e) c.grow.ensures.b_after }

@@ -1,14 +1,8 @@
 -- `accumulation::accumulate_column` meets its contract: the numbers below index i of the column are written. Assumes nothing.
-use native.Mathlib.Omega.{arith}
-use mathlib.Core.Path.{refl}
-use Prim.Native.Nat.{◌+◌, ◌-◌, ◌≤◌}
-use lib.Ieee.{nan}
-use Rattle.storage.specs.Filled.{Filled, filled_none, filled_more, filled_to, filled_after}
+use Prim.Native.Nat.{◌≤◌}
+use Rattle.storage.specs.Filled.{Filled}
 use Rattle.householder.specs.Columns.{accumulated_run}
 use Rattle.householder.proofs.accumulation.accumulate_column.Given as goal
 
 abbrev pub invariant-loop-i : goal.invariant-loop-i
 invariant-loop-i l = (l.i ≤ l.n) × Filled l.at (accumulated_run l.at l.vj l.p l.initial.q) l.i l.initial.q l.q
-
-abbrev pub decreases-loop-i : goal.decreases-loop-i
-decreases-loop-i l = l.n - l.i

@@ -1,16 +1,9 @@
 -- `reflection::update` meets its contract: the columns before j are written. Assumes nothing.
-use borrow.Author.Rules.{rules}
-use native.Mathlib.Omega.{arith}
-use mathlib.Core.Path.{◌≡◌, ap}
-use Prim.Native.Nat.{ℕ, ◌-◌, ◌*◌, ◌≤◌}
-use Rattle.storage.specs.Filled.{Filled, filled_none, filled_to}
+use Prim.Native.Nat.{◌*◌, ◌≤◌}
+use Rattle.storage.specs.Filled.{Filled}
 use Rattle.storage.specs.Rectangle.{by_rows}
 use Rattle.householder.specs.Columns.{updated_columns}
-use Rattle.householder.specs.ColumnsLaws.{updated_more}
 use Rattle.householder.proofs.reflection.update.Given as goal
 
 abbrev pub invariant-loop-j : goal.invariant-loop-j
 invariant-loop-j l = (l.j ≤ l.n) × Filled 0 (by_rows (updated_columns l.n l.v l.q l.initial.w) l.n) (l.j * l.n) l.initial.w l.w
-
-abbrev pub decreases-loop-j : goal.decreases-loop-j
-decreases-loop-j l = l.n - l.j

@@ -1,11 +1,10 @@
 -- `leaves::points` meets its contract. Assumes nothing.
 use Rattle.lengths.specs.Told.{too_large, small_enough, size_refused, told_past}
 use Rattle.lengths.specs.Lengths.{points_lengths}
-use Rattle.storage.specs.Checks.{refused_then, done_then}
 use native.Mathlib.Nat.{mul-le-mul_right}
 use native.Mathlib.Omega.{arith}
-use borrow.Author.Rules.{rules}
 use Rattle.lengths.proofs.leaves.points.Goals as goal
+use Rattle.refusal.specs.Numbers.{done_then, refused_then}
 
 pub returns-then-points-gt-MAX_POINTS : goal.returns-then-points-gt-MAX_POINTS
 returns-then-points-gt-MAX_POINTS c = size_refused (refused_then _ _ (too_large (omega arith)))

@@ -1,8 +1,7 @@
--- `words::read_degree` meets its contract: two bytes are a number below 65,536. Assumes nothing.
-use Rattle.model_file.proofs.Stores.{degree_of_two}
-use borrow.Author.Rules.{rules}
+-- `words::read_degree` meets its contract. Assumes nothing.
 use mathlib.Core.Path.{◌∙◌}
+use Rattle.model_file.proofs.Stores.{degree_of_two}
 use Rattle.model_file.proofs.words.read_degree.Goals as goal
 
 pub returns : goal.returns
-returns c = let a = c.args in c.number_of_four.ensures.value ∙ degree_of_two a.s.now a.at
+returns c = c.from.ensures ∙ c.from_le_bytes.ensures ∙ degree_of_two c.args.s.now c.args.at

@@ -1,11 +1,7 @@
--- `words::read_word` meets its contract: eight bytes are two numbers of four. Assumes nothing.
+-- `words::read_word` meets its contract. Assumes nothing.
+use mathlib.Core.Path.{◌∙◌}
 use Rattle.model_file.proofs.Stores.{word_of_eight}
-use borrow.Author.Rules.{rules}
-use native.Mathlib.Omega.{arith}
 use Rattle.model_file.proofs.words.read_word.Goals as goal
 
 pub returns : goal.returns
-returns c =
-    let number-of-four = c.number_of_four in
-    let a = c.args in
-    omega (arith, number-of-four.ensures.value, c.number_of_four-2.ensures.value, word_of_eight a.s.now a.at)
+returns c = c.from_le_bytes.ensures ∙ word_of_eight c.args.s.now _ c.args.at c.copy_from_slice.ensures.after

@@ -1,12 +1,8 @@
--- `words::write_degree` meets its contract: two bytes, one behind the other. Assumes nothing.
-use lib.ListN.{length-set}
-use Rattle.model_file.proofs.Stores.{store_two}
-use borrow.Author.Rules.{rules}
-use native.Mathlib.Omega.{arith}
+-- `words::write_degree` meets its contract. Assumes nothing.
+use mathlib.Core.Path.{◌∙◌}
+use Rattle.model_file.specs.LittleEndian.{length_bytes}
+use Rattle.model_file.proofs.Stores.{two_bytes, part_stored}
 use Rattle.model_file.proofs.words.write_degree.Goals as goal
 
-pub bounds-out-at-2 : goal.bounds-out-at-2
-bounds-out-at-2 c = simp length-set (omega arith)
-
 pub returns : goal.returns
-returns c = let a = c.args in cc (store_two a.out.now a.at a.x)
+returns c = part_stored _ c.args.out.now _ c.args.at 2 (c.copy_from_slice.ensures.after ∙ two_bytes c.args.x c.to_le_bytes.ensures) (length_bytes 2 c.args.x) c.requires

@@ -1,30 +1,8 @@
--- `words::write_word` meets its contract: eight bytes, one behind the other. Assumes nothing.
-use lib.ListN.{length-set}
-use Rattle.model_file.proofs.Stores.{store-eight}
-use borrow.Author.Rules.{rules}
-use native.Mathlib.Omega.{arith}
+-- `words::write_word` meets its contract. Assumes nothing.
+use mathlib.Core.Path.{◌∙◌}
+use Rattle.model_file.specs.LittleEndian.{length_bytes}
+use Rattle.model_file.proofs.Stores.{eight_bytes, part_stored}
 use Rattle.model_file.proofs.words.write_word.Goals as goal
 
-pub bounds-out-at-2 : goal.bounds-out-at-2
-bounds-out-at-2 c = simp length-set (omega arith)
-
-pub bounds-out-at-3 : goal.bounds-out-at-3
-bounds-out-at-3 c = simp length-set (omega arith)
-
-pub bounds-out-at-4 : goal.bounds-out-at-4
-bounds-out-at-4 c = simp length-set (omega arith)
-
-pub bounds-out-at-5 : goal.bounds-out-at-5
-bounds-out-at-5 c = simp length-set (omega arith)
-
-pub bounds-out-at-6 : goal.bounds-out-at-6
-bounds-out-at-6 c = simp length-set (omega arith)
-
-pub bounds-out-at-7 : goal.bounds-out-at-7
-bounds-out-at-7 c = simp length-set (omega arith)
-
-pub bounds-out-at-8 : goal.bounds-out-at-8
-bounds-out-at-8 c = simp length-set (omega arith)
-
 pub returns : goal.returns
-returns c = let a = c.args in cc (store-eight a.out.now a.at a.x)
+returns c = part_stored _ c.args.out.now _ c.args.at 8 (c.copy_from_slice.ensures.after ∙ c.to_le_bytes.ensures ∙ eight_bytes c.args.x) (length_bytes 8 c.args.x) c.requires

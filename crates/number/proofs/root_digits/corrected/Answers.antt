@@ -1,8 +1,8 @@
 -- `number::root_digits::corrected` meets its contract. Assumes nothing.
-use borrow.Author.Rules.{rules}
-use mathlib.Core.Path.{◌≡◌, sym, subst}
+use mathlib.Core.Path.{◌≡◌, refl, sym, subst, ◌∙◌}
 use Prim.Native.Nat.{ℕ, ◌+◌, ◌-◌, ◌*◌, ◌/◌, ◌%◌, ◌≤◌, ◌<◌, ◌^◌}
-use mathlib.Core.Bool.{true, false, cond, true≢false}
+use Rattle.std.specs.Int.{from_bool}
+use mathlib.Core.Bool.{Bool, true, false, cond}
 use lib.Dec.{ltb}
 use native.Mathlib.Omega.{arith}
 use Rattle.number.specs.NearestRoot.{NearestRoot}
@@ -15,9 +15,9 @@ gap a q = remainder a (q / 67108864 * (q / 67108864)) (q / 67108864 * (q % 67108
 small : (q : ℕ) → q < 2 ^ 53 → q ≤ 2 ^ 54
 small q h = omega arith
 
--- digits that are not known to be the nearest
-none : {A : Type 0} → false ≡ true → A
-none h = absurd (true≢false (sym h))
+bit : (b : Bool) → from_bool b ≡ cond b 1 0
+bit true = refl
+bit false = refl
 
 pub overflow_mul-hh : goal.overflow_mul-hh
 overflow_mul-hh c = omega (arith, H-le c.args.q (small c.args.q c.requires.fact_3))
@@ -36,6 +36,5 @@ returns-then-remainder-q-gt72057594037927938 c =
     let o = gap a q in
     let e = remainder_is a q c.if-hh-a.true c.if-hl-e.true c.if-ll-g.true in
     let near = corrected_at a q o p.fact_1 p.fact_2 p.fact_3 e c.if-remainder-high.true c.if-remainder-q-gt72057594037927938.true in
-    λ known.
-    subst (λ (r : ℕ). NearestRoot a (q + r + c.is_less-not_down.result - 1)) (sym c.is_less-up.ensures.value)
-    (subst (λ (r : ℕ). NearestRoot a (q + cond (ltb (72057594037927936 + q) o) 1 0 + r - 1)) (sym c.is_less-not_down.ensures.value) near)
+    subst (λ (r : ℕ). NearestRoot a (q + r + c.from-not_down.result - 1)) (sym (c.from-up.ensures ∙ bit _))
+    (subst (λ (r : ℕ). NearestRoot a (q + cond (ltb (72057594037927936 + q) o) 1 0 + r - 1)) (sym (c.from-not_down.ensures ∙ bit _)) near)

@@ -44,12 +44,6 @@ store_point-requires c =
     let loop-test = c.loop-i-test in
     omega (arith, loop.invariant.1, loop.invariant.2.long, loop-test.true, pre.points_bound_5)
 
-pub overflow_add-i : goal.overflow_add-i
-overflow_add-i c =
-    let pre = c.requires in
-    let loop-test = c.loop-i-test in
-    omega (arith, loop-test.true, pre.points_bound_1)
-
 pub overflow_add-at : goal.overflow_add-at
 overflow_add-at c =
     let pre = c.requires in

@@ -2,21 +2,18 @@
 use native.Mathlib.Omega.{arith}
 use mathlib.Core.Path.{◌≡◌, refl, ap, ◌∙◌}
 use Prim.Native.Nat.{ℕ, ◌+◌, ◌-◌, ◌*◌, ◌≤◌}
-use lib.ListN.{length}
 use lib.Ieee.{Float}
 use mathlib.Core.Path.{subst}
 use Rattle.number.specs.Float64.{◌⊗◌}
 use Rattle.number.specs.Root.{root_of}
-use Rattle.storage.specs.Filled.{Filled, filled_none, filled_to, filled_self}
-use Rattle.storage.specs.Rectangle.{by_rows}
-use Rattle.storage.specs.Triangle.{idx, table_size, row_start_zero, row_start_more, row_within}
-use Rattle.recursion.specs.Recursion.{sectoral_ratio, pmm, pmm_zero, pmm_more}
-use Rattle.matrix.specs.Layout.{Kept, kept_none, kept_then}
+use Rattle.storage.specs.Filled.{filled_none, filled_to, filled_self}
+use Rattle.storage.specs.Triangle.{row_start_zero, row_start_more, row_within}
+use Rattle.recursion.specs.Recursion.{sectoral_ratio, pmm_zero, pmm_more}
+use Rattle.matrix.specs.Layout.{kept_none, kept_then}
 use Rattle.linalg.specs.Solution.{count_within}
 use Rattle.caps.specs.Caps.{degrees}
-use Rattle.caps.specs.Nodes.{rescale_of, rescales_first, rescales_next}
-use Rattle.polar_cap.specs.PolarCap.{told_of, vectors_size, cap_work}
-use Rattle.cap_functions.specs.CapPlaces.{concentrations_at, vectors_at, functions_before, numbers_before, before_zero, order_within, divided, room_kept}
+use Rattle.caps.specs.Nodes.{rescales_first, rescales_next}
+use Rattle.cap_functions.specs.CapPlaces.{before_zero, order_within, divided, room_kept}
 use Rattle.polar_cap.specs.CapOrder.{convergence_few, told_more}
 use Rattle.polar_cap.specs.CapStorage.{Stored, stored_none}
 use Rattle.polar_cap.proofs.cap.all_orders.Goals as goal
@@ -131,10 +128,6 @@ pub next_sectoral-sectoral-requires : goal.next_sectoral-sectoral-requires
 next_sectoral-sectoral-requires c =
     let r = c.requires.fact_3 in
     omega (arith, c.loop-m-test.true, r.top)
-
-pub loop-m-smaller : goal.loop-m-smaller
-loop-m-smaller c =
-    omega (arith, c.loop-m-test.true)
 
 pub loop-m-preserved : goal.loop-m-preserved
 loop-m-preserved c =

@@ -1,9 +1,10 @@
 -- `cap::tell` meets its contract: a count is small, and so its number is exact. Assumes nothing.
 use native.Mathlib.Omega.{arith}
 use lib.ListN.{length-set}
+use mathlib.Core.Path.{◌∙◌}
+use Rattle.linalg.specs.Solution.{settled_is_byte}
 use Rattle.number.specs.Whole.{whole}
 use Rattle.polar_cap.specs.CapOrder.{told_stored}
-use borrow.Author.Rules.{rules}
 use Rattle.polar_cap.proofs.cap.tell.Goals as goal
 
 pub int_to_float-settled-2 : goal.int_to_float-settled-2
@@ -15,4 +16,4 @@ bounds-settled-at-2 c = simp length-set (omega arith)
 pub returns : goal.returns
 returns c =
     let a = c.args in
-    told_stored a.ended a.settled.now c.settled_number.ensures (omega arith) (omega arith)
+    told_stored a.ended a.settled.now (c.from.ensures ∙ settled_is_byte _) (omega arith) (omega arith)

@@ -1,26 +1,24 @@
--- `gauss::by_fours` meets its contract: the roots below index i and their weights are written. Assumes nothing.
-use lib.Ieee.{nan}
-use Rattle.storage.specs.Elements.{from}
-use Rattle.storage.specs.Filled.{Filled, filled_none, filled_join}
-use Rattle.quadrature.specs.Gauss.{upper_node, upper_weight}
+-- `gauss::by_fours` meets its contract: the roots of the blocks so far and their weights are written. Assumes nothing.
+use Rattle.storage.specs.Filled.{filled_none, filled_join, filled_to}
 use Rattle.quadrature.specs.GaussLaws.{node_from, weight_from}
-use borrow.Author.Rules.{rules}
 use native.Mathlib.Omega.{arith}
-use Prim.Native.Nat.{◌-◌, ◌≤◌}
+use mathlib.Core.Path.{◌≡◌}
+use Prim.Native.Nat.{◌*◌, ◌/◌}
 use Rattle.quadrature.proofs.gauss.by_fours.Goals as goal
 
-pub loop-i-init : goal.loop-i-init
-loop-i-init c = (omega arith, filled_none, filled_none)
+pub loop-block-init : goal.loop-block-init
+loop-block-init c = (filled_none, filled_none)
 
-pub loop-i-preserved : goal.loop-i-preserved
-loop-i-preserved c =
+pub loop-block-preserved : goal.loop-block-preserved
+loop-block-preserved c =
     let a = c.args in
-    let l = c.loop-i in
+    let l = c.loop-block in
     let r = c.four_at.ensures in (
-      omega arith,
-      filled_join l.invariant.1 r.filled (omega arith) (λ i h. node_from a.guesses.now l.i a.n i),
-      filled_join l.invariant.2 r.filled_2 (omega arith) (λ i h. weight_from a.guesses.now l.i a.n i),
+      filled_to (filled_join l.invariant.0 r.filled (omega arith) (λ i h. node_from a.guesses.now (4 * l.block) a.n i)) (omega arith),
+      filled_to (filled_join l.invariant.1 r.filled_2 (omega arith) (λ i h. weight_from a.guesses.now (4 * l.block) a.n i)) (omega arith),
     )
 
 pub returns : goal.returns
-returns c = record { upper_bound = c.loop-i.invariant.0; filled = c.loop-i.invariant.1; filled_2 = c.loop-i.invariant.2 }
+returns c =
+    let e : c.loop-block.block ≡ c.args.half / 4 = omega arith in
+    record { upper_bound = omega arith; filled = rw e at c.loop-block.invariant.0; filled_2 = rw e at c.loop-block.invariant.1 }

@@ -1,9 +1,8 @@
 -- `gauss::four_roots` meets its contract: each root goes as the one of `legendre_root` does, and stays once it has settled. Assumes nothing.
 use Rattle.quadrature.specs.Gauss.{start}
-use Rattle.quadrature.specs.GaussLaws.{Corrected, none_corrected, all_corrected, root_settled, root_last}
-use borrow.Author.Rules.{rules}
+use Rattle.quadrature.specs.GaussLaws.{none_corrected, all_corrected, root_settled, root_last}
 use native.Mathlib.Omega.{arith}
-use Prim.Native.Nat.{◌-◌, ◌≤◌, ◌<◌}
+use Prim.Native.Nat.{◌≤◌, ◌<◌}
 use Rattle.quadrature.proofs.gauss.four_roots.Goals as goal
 
 pub loop-k-init : goal.loop-k-init
@@ -30,7 +29,7 @@ pub loop-k-preserved : goal.loop-k-preserved
 loop-k-preserved c =
     let i = c.loop-k.invariant in
     let p = c.four_pairs-p.ensures in
-    let h : c.loop-k.k < 100 = omega arith in (
+    let h : c.loop-k._k < 100 = omega arith in (
       omega arith,
       all_corrected i.1 h p.fact_1 c.correct_unless_settled-a.ensures,
       all_corrected i.2 h p.fact_2 c.correct_unless_settled-b.ensures,
@@ -41,5 +40,5 @@ loop-k-preserved c =
 pub returns : goal.returns
 returns c =
     let i = c.loop-k.invariant in
-    let h : 100 ≤ c.loop-k.k = omega arith in
+    let h : 100 ≤ c.loop-k._k = omega arith in
     record { fact_1 = root_last i.1 h; fact_2 = root_last i.2 h; fact_3 = root_last i.3 h; fact_4 = root_last i.4 h }

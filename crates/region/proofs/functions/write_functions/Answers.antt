@@ -1,13 +1,11 @@
 -- `functions::write_functions` meets its contract: i functions are written. Assumes nothing.
 use native.Mathlib.Omega.{arith}
-use borrow.Author.Rules.{rules}
 use mathlib.Core.Path.{◌≡◌, sym, ap, ◌∙◌}
-use Prim.Native.Nat.{ℕ, ◌-◌, ◌*◌, ◌≤◌}
+use Prim.Native.Nat.{ℕ, ◌*◌}
 use native.Mathlib.Nat.{mul-le-mul_right}
-use Rattle.storage.specs.Filled.{Filled, filled_none, filled_to}
-use Rattle.storage.specs.Rectangle.{by_rows}
+use Rattle.storage.specs.Filled.{filled_none, filled_to}
 use Rattle.region_nodes.specs.NodeLaws.{degree_within}
-use Rattle.region.specs.Written.{picked_vector, functions_more}
+use Rattle.region.specs.Written.{functions_more}
 use Rattle.region.proofs.functions.write_functions.Goals as goal
 
 pub loop-i-init : goal.loop-i-init
@@ -54,7 +52,7 @@ overflow_add-to c =
 pub loop-i-preserved : goal.loop-i-preserved
 loop-i-preserved c =
     let loop = c.loop-i in
-    let place = c.index-place.ensures in (
+    let place = c.from-place.ensures in (
       omega arith,
       omega (arith, loop.invariant.1),
       functions_more _ _ _ _ _ _ _ loop.invariant.2 (filled_to c.write_function.ensures

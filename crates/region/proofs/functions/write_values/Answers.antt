@@ -1,12 +1,11 @@
 -- `functions::write_values` meets its contract: i values are written. Assumes nothing.
 use native.Mathlib.Omega.{arith}
-use borrow.Author.Rules.{rules}
 use mathlib.Core.Path.{sym, ap}
-use Prim.Native.Nat.{ℕ, ◌-◌, ◌≤◌}
+use Prim.Native.Nat.{ℕ}
 use lib.ListN.{get_or}
 use lib.Ieee.{nan}
 use native.Mathlib.Nat.{zero-add}
-use Rattle.storage.specs.Filled.{Filled, filled_none, filled_more, filled_to}
+use Rattle.storage.specs.Filled.{filled_none, filled_more, filled_to}
 use Rattle.region.specs.Written.{picked_value}
 use Rattle.region.proofs.functions.write_values.Goals as goal
 
@@ -37,7 +36,7 @@ loop-i-preserved c =
     let a = c.args in (
       omega arith,
       filled_more c.loop-i.invariant.1 (sym (zero-add _))
-          (ap (λ (f : ℕ). get_or a.values.now f nan) c.index-place.ensures),
+          (ap (λ (f : ℕ). get_or a.values.now f nan) c.from-place.ensures),
     )
 
 pub returns : goal.returns

@@ -1,14 +1,10 @@
 -- `add_nodes` meets its contract: the nodes below v are added. Assumes nothing.
-use borrow.Author.Rules.{rules}
 use native.Mathlib.Omega.{arith}
-use mathlib.Core.Path.{◌≡◌, refl, ap, ◌∙◌}
-use Prim.Native.Nat.{ℕ, ◌-◌, ◌*◌, ◌≤◌}
-use lib.ListN.{length}
+use mathlib.Core.Path.{refl, ap, ◌∙◌}
+use Prim.Native.Nat.{ℕ, ◌*◌}
 use native.Mathlib.Nat.{mul-le-mul}
-use Rattle.storage.specs.Filled.{Filled}
-use Rattle.storage.specs.Rectangle.{by_rows}
 use Rattle.region_nodes.specs.Basis.{basis_size}
-use Rattle.regions.specs.Nodes.{partial_cell, arrays_kept, nodes_none, nodes_more, nodes_all}
+use Rattle.regions.specs.Nodes.{arrays_kept, nodes_none, nodes_more, nodes_all}
 use Rattle.regions.proofs.nodes.add_nodes.Goals as goal
 
 pub overflow_mul-n : goal.overflow_mul-n
@@ -23,9 +19,6 @@ loop-v-init c = (omega arith, refl, refl, refl, nodes_none _ _ _ _ _ _ c.basis_s
 pub node-requires : goal.node-requires
 node-requires c =
     record { fact_1 = c.loop-v-test.true; fact_2 = c.requires.fact_1; fact_3 = arrays_kept c.requires.fact_2 c.loop-v.invariant.1 c.loop-v.invariant.2 c.loop-v.invariant.3 (c.loop-v.invariant.4.long ∙ c.clear.ensures.long) }
-
-pub overflow_add-v : goal.overflow_add-v
-overflow_add-v c = omega (arith, c.loop-v-test.true, c.requires.fact_1.few)
 
 pub loop-v-preserved : goal.loop-v-preserved
 loop-v-preserved c = (

@@ -43,9 +43,6 @@ point-x-requires c =
 pub store_point-requires : goal.store_point-requires
 store_point-requires c = omega (arith, c.loop-i.invariant.1, c.loop-i.invariant.2.long, c.loop-i-test.true, c.requires.nmax_in_bounds_2)
 
-pub overflow_add-i : goal.overflow_add-i
-overflow_add-i c = omega (arith, c.loop-i-test.true, c.requires.field_room_3)
-
 pub overflow_add-at : goal.overflow_add-at
 overflow_add-at c = omega (arith, c.loop-i.invariant.1, c.loop-i-test.true, c.requires.field_room_3)
 

@@ -24,14 +24,6 @@ grid_row-requires c =
     let up = mul-le-mul_right c.args.longitudes
     c.loop-i-test.true in record { row_room = room_kept q.row_room l.3 l.4 l.5 l.6 l.7 l.8; filled_1 = q.filled_1; filled_2 = q.filled_3; filled_3 = omega (arith, q.filled_4, l.2.long, l.1, up) }
 
-pub overflow_add-i : goal.overflow_add-i
-overflow_add-i c =
-    omega (
-      arith,
-      c.loop-i-test.true,
-      c.requires.rows_bound_1,
-    )
-
 pub overflow_add-at : goal.overflow_add-at
 overflow_add-at c =
     let q = c.requires in

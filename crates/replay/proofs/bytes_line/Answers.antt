@@ -1,8 +1,0 @@
--- `bytes_line` meets its contract: the line that is written has the count that the comparison answered. Assumes nothing.
-use Rattle.replay.proofs.bytes_line.Goals as goal
-
-pub returns : goal.returns
-returns c =
-    let w = c.write_line in
-    let e = c.same_bytes-right in
-    record { value = cc (w.ensures.value, e.ensures); out_after = cc (w.ensures.out_after, e.ensures); prefix = w.ensures.prefix }

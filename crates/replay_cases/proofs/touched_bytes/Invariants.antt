@@ -1,9 +1,0 @@
--- `touched_bytes` meets its contract: of the first i places at most i are changed. Assumes nothing.
-use Prim.Native.Nat.{◌-◌, ◌≤◌}
-use Rattle.replay_cases.proofs.touched_bytes.Given as goal
-
-abbrev pub invariant-loop-i : goal.invariant-loop-i
-invariant-loop-i l = (l.count ≤ l.i) × (l.end ≤ l.i) × (l.count ≤ 64) × (l.end ≤ 64)
-
-abbrev pub decreases-loop-i : goal.decreases-loop-i
-decreases-loop-i l = 64 - l.i

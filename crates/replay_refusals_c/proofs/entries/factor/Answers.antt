@@ -1,9 +1,0 @@
--- `factor` meets its contract: each part is as long as its length says. Assumes nothing.
-use native.Mathlib.Omega.{arith}
-use mathlib.Core.Path.{sym}
-use lib.Seq.{length-take-le}
-use borrow.Author.Rules.{rules}
-use Rattle.replay_refusals_c.proofs.entries.factor.Goals as goal
-
-pub slice_bounds-geopotential_factor-end : goal.slice_bounds-geopotential_factor-end
-slice_bounds-geopotential_factor-end c = sym (length-take-le _ _ (omega arith))
