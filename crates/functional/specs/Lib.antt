@@ -1,3 +1,4 @@
 pub mod Factor
 pub mod GravityAnomaly
+pub mod Numbers
 pub mod Stored

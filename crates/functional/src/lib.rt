@@ -4,6 +4,7 @@
 ghost use Rattle.std.specs.Prelude.{◌≡◌, ℕ, ◌+◌, ◌≤◌, ◌<◌, length};
 ghost use Rattle.storage.specs.Filled.{Filled};
 ghost use Rattle.functional.specs.Factor.{factor_of, lacks_love, factor_answer};
+ghost use Rattle.functional.specs.Numbers.{Decodes};
 
 use refusal::Refusal;
 
@@ -15,7 +16,7 @@ pub const RHO_WATER: f64 = 1000.0;
 
 // A quantity that is a multiple, degree by degree, of the harmonic sum of P(n,m) (C(n,m) cos mλ + S(n,m) sin mλ) over m, in spherical
 // approximation. The load Love numbers of WaterHeight are lent beside it.
-#[derive(Clone, Copy)]
+#[derive(Clone, Copy, Debug, PartialEq, Eq)]
 pub enum Functional {
     // gravitational potential V, m²/s²
     Potential,
@@ -29,6 +30,29 @@ pub enum Functional {
     RadialGradient,
     // equivalent water height on the reference sphere, m
     WaterHeight,
+}
+
+// A number above 5, which is no functional's.
+#[derive(Clone, Copy, Debug, PartialEq, Eq)]
+pub struct NoFunctional(pub u32);
+
+// The functional of a number, in the order of the enum.
+impl TryFrom<u32> for Functional {
+    type Error = NoFunctional;
+
+    ghost try_from_gives = { Decodes };
+
+    fn try_from(number: u32) -> Result<Functional, NoFunctional> {
+        match number {
+            0 => Ok(Functional::Potential),
+            1 => Ok(Functional::GeoidHeight),
+            2 => Ok(Functional::GravityDisturbance),
+            3 => Ok(Functional::GravityAnomaly),
+            4 => Ok(Functional::RadialGradient),
+            5 => Ok(Functional::WaterHeight),
+            _ => Err(NoFunctional(number)),
+        }
+    }
 }
 
 impl Functional {

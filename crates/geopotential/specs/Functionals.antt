@@ -1,8 +1,9 @@
 -- The functionals by their numbers in C, and what the entry for a factor answers and leaves. Assumes nothing.
-use Rattle.std.specs.Prelude.{◌≡◌, cond, List, ℕ, ◌≤◌, ◌<◌, ltb, eqb, Float, Result}
-use Rattle.std.proofs.Common.{◌∙◌, lt-ltb, le-ltb, ne_eqb, arith}
+use Rattle.std.specs.Prelude.{◌≡◌, refl, cond, List, ℕ, ◌≤◌, ◌<◌, ltb, eqb, Float, Result}
+use Rattle.std.proofs.Common.{◌∙◌, ap, lt-ltb, le-ltb, ne_eqb, arith}
 use Rattle.refusal.specs.Numbers.{value_after, result_number}
 use Rattle.functional.specs.Factor.{factor_answer}
+use Rattle.functional.specs.Numbers.{number_of, number_small}
 use Rattle.functional.specs.declared.Functional.{Functional}
 use Rattle.functional.specs.declared.Functional.TheVariants.{Potential, GeoidHeight, GravityDisturbance, GravityAnomaly, RadialGradient, WaterHeight}
 use Rattle.refusal.specs.declared.Refusal.{Refusal}
@@ -25,6 +26,19 @@ functional_other k h =
       ne_eqb k 3 (λ e. omega arith),
       ne_eqb k 4 (λ e. omega arith),
     )
+
+-- the functional that a number decodes to is that of the number
+functional_back : (f : Functional) → f ≡ functional_of (number_of f)
+unfolding functional_of
+functional_back Potential = refl
+functional_back GeoidHeight = refl
+functional_back GravityDisturbance = refl
+functional_back GravityAnomaly = refl
+functional_back RadialGradient = refl
+functional_back WaterHeight = refl
+
+pub functional_decoded : {k : ℕ} {f : Functional} → number_of f ≡ k → (k ≤ 5) × (f ≡ functional_of k)
+functional_decoded {f = f} p = (rw (← p) (number_small f), functional_back f ∙ ap functional_of p)
 
 -- the number by which an entry refuses a functional that is none; document 01 has no such refusal
 abbrev pub no_functional : ℕ

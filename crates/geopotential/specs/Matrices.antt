@@ -2,8 +2,7 @@
 use Rattle.std.specs.Prelude.{◌≡◌, ℕ, ◌≤◌, Err, Ok, Result, ⊤}
 use Rattle.std.proofs.Common.{ap, sym, subst, ◌∙◌}
 use Rattle.refusal.specs.Numbers.{after, refusal_above_0, result_number, value_if}
-use Rattle.linalg.specs.declared.Convergence.{Convergence}
-use Rattle.linalg.specs.Solution.{settled_number, count_in}
+use Rattle.linalg.specs.Solution.{Convergence, settled_number, count_in}
 use Rattle.refusal.specs.declared.Refusal.{Refusal}
 
 -- what the places lent for the two numbers of a solver hold after it answered, or was refused

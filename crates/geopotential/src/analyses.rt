@@ -3,6 +3,8 @@ ghost use Rattle.std.specs.Prelude.{◌≡◌, length};
 ghost use Rattle.geopotential.specs.Analyses.{analysis_number, analysis_after, analysis_keeps};
 ghost use Rattle.analysis.specs.Analysis.{cosine_sum, sine_sum};
 
+use functional::Functional;
+
 // A functional above 5 is refused by 255, before every check.
 pub fn geopotential_analysis(
     functional: u32,
@@ -33,10 +35,9 @@ pub fn geopotential_analysis(
         trig.now work.old c.old s.old work.old }
     ensures work_len_unchanged { length work.new ≡ length work.old }
 {
-    if functional > 5 {
+    let Ok(f) = Functional::try_from(functional) else {
         return 255;
-    }
-    let f = crate::functionals::functional_of(functional);
+    };
     refusal::result_number(analysis::analysis(
         f, love, r, nmax, gm, radius, values, weights, latitudes, trig, work, c, s,
     ))

@@ -11,6 +11,7 @@ ghost use Rattle.geopotential.specs.Functionals.{functional_of};
 ghost use Rattle.geopotential.specs.Fields.{basin_number, basin_after, grid_number, grid_after, grid_keeps};
 
 use coefficients::{Head, TideSystem};
+use functional::Functional;
 
 // A functional above 5 is refused by 255, before every check.
 pub fn geopotential_grid(
@@ -46,10 +47,9 @@ pub fn geopotential_grid(
         (cosines trig.now nmax j) (sines trig.now nmax j) nmax
         (get_or out.new (i * longitudes + j) nan) }
 {
-    if functional > 5 {
+    let Ok(f) = Functional::try_from(functional) else {
         return 255;
-    }
-    let f = crate::functionals::functional_of(functional);
+    };
     let head = Head {
         gm,
         radius,
@@ -86,10 +86,9 @@ pub fn geopotential_basin_average(
         (cells c.now nan) (cells s.now nan) (cells kc.now nan) (cells ks.now nan)
         (factor_of (functional_of functional) love.now gm radius r) (min nmax kmax) value.new }
 {
-    if functional > 5 {
+    let Ok(f) = Functional::try_from(functional) else {
         return 255;
-    }
-    let f = crate::functionals::functional_of(functional);
+    };
     let field = Head {
         gm,
         radius,

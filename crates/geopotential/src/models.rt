@@ -12,6 +12,7 @@ ghost use Rattle.coefficients.specs.Values.{rescaled_entry, variance_of};
 ghost use Rattle.geopotential.specs.Models.{degree_after, cut_check, same_check, amplitudes_number, amplitudes_after};
 
 use coefficients::{Head, TideSystem};
+use functional::Functional;
 use refusal::Refusal;
 
 pub fn geopotential_zeros(gm: f64, radius: f64, nmax: usize, c: &mut [f64], s: &mut [f64]) -> u32
@@ -177,10 +178,9 @@ pub fn geopotential_degree_amplitudes(
     ensures value { result ≡ amplitudes_number nmax c.now s.now functional love.now out.old }
     ensures out_after { out.new ≡ amplitudes_after gm radius nmax c.now s.now functional love.now out.old }
 {
-    if functional > 5 {
+    let Ok(f) = Functional::try_from(functional) else {
         return 255;
-    }
-    let f = crate::functionals::functional_of(functional);
+    };
     let head = Head {
         gm,
         radius,

@@ -8,12 +8,7 @@ ghost use Rattle.jacobi.specs.Jacobi.{state, squares, add_off_row, off_squares, 
 ghost use Rattle.jacobi.specs.Jacobi.{jacobi, jacobi_values, jacobi_vectors, jacobi_sweeps, jacobi_settled};
 ghost use Rattle.jacobi.specs.JacobiLaws.{held, Became};
 
-// How many sweeps there were, and whether the test before one was met. Both stand in either case, so this is no Option.
-#[derive(Clone, Copy)]
-pub struct Settled {
-    pub sweeps: usize,
-    pub settled: bool,
-}
+use matrix::Convergence;
 
 // The sum of the squares of all numbers.
 fn squares(a: &[f64]) -> f64
@@ -138,38 +133,38 @@ fn sweep(n: usize, a: &mut [f64], v: &mut [f64])
 }
 
 // At most 100 sweeps, with the test before each.
-fn sweeps(n: usize, scale: f64, a: &mut [f64], v: &mut [f64]) -> Settled
+fn sweeps(n: usize, scale: f64, a: &mut [f64], v: &mut [f64]) -> Convergence
     requires fact_1 { Room n a.old }
     requires fact_2 { Room n v.old }
-    ensures fact_1 { state (held n a.new v.new) result.sweeps result.settled ≡ sweeps n scale (held n a.old v.old) }
+    ensures fact_1 { state (held n a.new v.new) result.count result.settled ≡ sweeps n scale (held n a.old v.old) }
     ensures fact_2 { Kept (n * n) a.old a.new }
     ensures fact_3 { Kept (n * n) v.old v.new }
-    ensures fact_4 { result.sweeps ≤ 100 }
+    ensures fact_4 { result.count ≤ 100 }
 {
     for k in 0..100 {
         if off_squares(n, a) <= 1e-34 * scale {
-            return Settled {
-                sweeps: k,
+            return Convergence {
                 settled: true,
+                count: k,
             };
         }
         sweep(n, a, v);
     }
-    Settled {
-        sweeps: 100,
+    Convergence {
         settled: false,
+        count: 100,
     }
 }
 
 // The matrix a, rotated until it is diagonal or the sweeps are over, in the list of the vectors, and the product of the rotations in the working list.
-fn diagonalize(n: usize, a: &[f64], work: &mut [f64], vectors: &mut [f64]) -> Settled
+fn diagonalize(n: usize, a: &[f64], work: &mut [f64], vectors: &mut [f64]) -> Convergence
     requires fact_1 { length a.now ≡ n * n }
     requires fact_2 { Room n work.old }
     requires fact_3 { Room n vectors.old }
-    ensures fact_1 { state (held n vectors.new work.new) result.sweeps result.settled ≡ jacobi n a.now }
+    ensures fact_1 { state (held n vectors.new work.new) result.count result.settled ≡ jacobi n a.now }
     ensures fact_2 { Kept (n * n) vectors.old vectors.new }
     ensures fact_3 { Kept (n * n) work.old work.new }
-    ensures fact_4 { result.sweeps ≤ 100 }
+    ensures fact_4 { result.count ≤ 100 }
 {
     matrix::copy(a.len(), a, vectors);
     matrix::identity(n, work);
@@ -185,7 +180,7 @@ pub fn solve(
     work: &mut [f64],
     values: &mut [f64],
     vectors: &mut [f64],
-) -> Settled
+) -> Convergence
     requires fact_1 { n ≤ 512 }
     requires fact_2 { length a.now ≡ n * n }
     requires fact_3 { n * n + 4 * n ≤ length work.old }
@@ -194,9 +189,9 @@ pub fn solve(
     ensures values_after { values.new ≡ jacobi_values n a.now ++ drop n values.old }
     ensures vectors_after { vectors.new ≡ jacobi_vectors n a.now ++ drop (n * n) vectors.old }
     ensures kept { Kept (n * n + 4 * n) work.old work.new }
-    ensures sweeps_value_1 { result.sweeps ≡ jacobi_sweeps n a.now }
+    ensures sweeps_value_1 { result.count ≡ jacobi_sweeps n a.now }
     ensures sweeps_value_2 { result.settled ≡ jacobi_settled n a.now }
-    ensures sweeps_value_3 { result.sweeps ≤ 100 }
+    ensures sweeps_value_3 { result.count ≤ 100 }
 {
     let r = diagonalize(n, a, work, vectors);
     matrix::diagonal(n, vectors, values);

@@ -8,7 +8,7 @@ use Rattle.jacobi.specs.Jacobi.{jacobi_values, jacobi_vectors, jacobi_sweeps, ja
 use Rattle.householder.specs.Reduction.{Reduction, subdiagonal_cell}
 use Rattle.householder.specs.Reduction.{tridiagonal as reduction}
 use Rattle.ql.specs.Ql.{Tridiagonal, tridiagonal, State, state, iteration, settled_in, rounds_in}
-use Rattle.linalg.specs.declared.Convergence.{Convergence}
+use Rattle.matrix.specs.declared.Convergence.{Convergence}
 use Rattle.refusal.specs.declared.Refusal.{Refusal}
 
 -- the n numbers below the diagonal, the last of them 0

@@ -20,7 +20,7 @@ use Rattle.jacobi.specs.Jacobi.{jacobi_values, jacobi_vectors, jacobi_sweeps, ja
 use Rattle.linalg.specs.Eigen.{subdiagonal, tridiagonal_of, diagonal_in, product_in, householder_ql, householder_values, householder_vectors}
 use Rattle.linalg.specs.Eigen.{householder_rounds, householder_settled, eigen_values, eigen_vectors}
 use Rattle.linalg.specs.Eigen.{convergence, householder_convergence, jacobi_convergence, eigen_convergence}
-use Rattle.linalg.specs.declared.Convergence.{Convergence}
+use Rattle.matrix.specs.declared.Convergence.{Convergence}
 use Rattle.linalg.specs.Sizes.{length_householder_values, length_householder_vectors, length_jacobi_values, length_jacobi_vectors}
 
 -- the front of a list that was filled there

@@ -1,5 +1,5 @@
 -- How many numbers the solvers answer: n values, and n * n numbers of the vectors. Assumes nothing.
-use Rattle.std.specs.Prelude.{◌≡◌, Bool, true, false, cond, List, ℕ, ◌+◌, ◌-◌, ◌*◌, ltb, eqb, length, set, Float}
+use Rattle.std.specs.Prelude.{◌≡◌, Bool, true, false, cond, List, ℕ, ◌+◌, ◌-◌, ◌*◌, ltb, eqb, length, set, Float, None, Some}
 use Rattle.std.proofs.Common.{◌∙◌, arith, length-set}
 use Rattle.std.specs.Float.Ieee.{eq}
 use Rattle.number.specs.Float64.{◌⊖◌, ◌⊗◌, zero64}
@@ -11,7 +11,8 @@ use Rattle.jacobi.specs.Jacobi.{sweep_unless_small, matrix_in, sweeps, jacobi, j
 use Rattle.jacobi.specs.Jacobi.{State as Swept, state as swept, settled_in as sweepsSettled, product_in as rotationsIn}
 use Rattle.householder.specs.Reduction.{Reduction, norm, column_of, householder_vector, reflected, accumulated_cell, accumulated, reflection, reductions}
 use Rattle.householder.specs.Reduction.{reduction_of, tridiagonal as reduction}
-use Rattle.ql.specs.Ql.{Tridiagonal, tridiagonal, at, next, broken, Chase, chase, rotated, rotate_sized, broken_off, rotations, closed, round, State, state}
+use Rattle.ql.specs.declared.Rotation.{Rotation}
+use Rattle.ql.specs.Ql.{Tridiagonal, tridiagonal, at, next, Chase, chase, rotated, rotate_sized, broken_off, rotations, closed, round, State, state}
 use Rattle.ql.specs.Ql.{end_in, round_unless_alone, settled_in, rounds, and_before, rounds_at, iteration, rotate_by as chaseBy, rotate_at as chaseAt}
 use Rattle.linalg.specs.Eigen.{tridiagonal_of, diagonal_in, product_in, householder_ql, householder_values, householder_vectors, eigen_values, eigen_vectors}
 
@@ -100,23 +101,23 @@ module _ (n : ℕ) where
   abbrev SizedIn : State → Type 0
   SizedIn (state t k met) = Sized t
 
-  sized_by : (m i : ℕ) (r f b : Float) (c : Chase) → SizedChase c → SizedChase (chaseBy n m i r f b c)
+  sized_by : (m i : ℕ) (r f b : Float) (t : Tridiagonal) (x : Rotation) → Sized t → SizedChase (chaseBy n m i r f b t x)
   unfolding chaseBy rotated
-  sized_by m i r f b (chase (tridiagonal d e q) x) h =
+  sized_by m i r f b (tridiagonal d e q) x h =
       let y = next x (at d i) (at d (i + 1)) f b r in
-      either SizedChase (eq r zero64) (chase (tridiagonal (set d (i + 1) (at d (i + 1) ⊖ x.p)) (set e m zero64) q) (broken x))
+      either SizedChase (eq r zero64) (chase (tridiagonal (set d (i + 1) (at d (i + 1) ⊖ x.p)) (set e m zero64) q) None)
       (rotated n i (at d (i + 1) ⊖ x.p) y d e q) (length-set d _ _ ∙ h.0, h.1)
       (length-set d _ _ ∙ h.0, length_rotated n y.c y.s i (i + 1) q)
 
   sized_rotation : (m i : ℕ) (c : Chase) → SizedChase c → SizedChase (chaseAt n m i c)
   unfolding chaseAt rotate_sized
-  sized_rotation m i (chase (tridiagonal d e q) x) h = sized_by m i _ _ _ (chase (tridiagonal d (set e (i + 1) _) q) x) h
+  sized_rotation m i (chase t None) h = h
+  sized_rotation m i (chase (tridiagonal d e q) (Some x)) h = sized_by m i _ _ _ (tridiagonal d (set e (i + 1) _) q) x h
 
   sized-closed : (l m : ℕ) (c : Chase) → SizedChase c → Sized (closed l m c)
   unfolding closed
-  sized-closed l m (chase (tridiagonal d e q) x) h =
-      either Sized x.underflow (tridiagonal d e q) (tridiagonal (set d l (at d l ⊖ x.p)) (set (set e l x.g) m zero64) q) h
-      (length-set d _ _ ∙ h.0, h.1)
+  sized-closed l m (chase t None) h = h
+  sized-closed l m (chase (tridiagonal d e q) (Some x)) h = (length-set d _ _ ∙ h.0, h.1)
 
   sized-round : (l m : ℕ) (t : Tridiagonal) → Sized t → Sized (round n l m t)
   unfolding round rotations

@@ -3,7 +3,7 @@ use Rattle.std.specs.Prelude.{◌≡◌, refl, Bool, true, false, cond, ℕ, ◌
 use Rattle.std.specs.Int.{from_bool}
 use Rattle.std.proofs.Common.{sym, ap, subst, ◌∙◌}
 use Rattle.refusal.specs.declared.Refusal.{Refusal}
-use Rattle.linalg.specs.declared.Convergence.{Convergence}
+pub use Rattle.matrix.specs.declared.Convergence.{Convergence}
 use Rattle.refusal.specs.Numbers.{value_if}
 
 -- 1 where a solver settled, 0 where it did not

@@ -14,7 +14,7 @@ use Rattle.householder_within.specs.Within.{back, back_behind}
 use Rattle.ql.specs.Ql.{state}
 use Rattle.ql.specs.QlLaws.{held}
 use Rattle.linalg.specs.Eigen.{product_in, householder_ql, householder_vectors, eigen_values, eigen_vectors, eigen_convergence}
-use Rattle.linalg.specs.declared.Convergence.{Convergence}
+use Rattle.matrix.specs.declared.Convergence.{Convergence}
 use Rattle.linalg.specs.Sizes.{length_vectors}
 
 -- the columns of the matrix `vectors` stand behind the n by n matrix at the front of w, one after the other

@@ -15,19 +15,11 @@ ghost use Rattle.linalg.specs.Eigen.{householder_values, householder_vectors, ho
 ghost use Rattle.linalg.specs.Eigen.{eigen_values, eigen_vectors, eigen_convergence, eigen_limit, eigen_check};
 ghost use Rattle.linalg.specs.Solution.{count_in};
 
+pub use matrix::Convergence;
 use refusal::Refusal;
 
 // The most rows of a matrix.
 pub const MAX_ROWS: usize = 512;
-
-// How a solver ended. Jacobi rotations settle where their test passes before one of the hundred sweeps, and the count is of sweeps done; the QL
-// iteration where each number meets its stopping test within its hundred rounds, and the count is of all rounds that went past the test, those that
-// broke off on a zero among them. That a solver settled says nothing of how near the answer is. The count stands in either case, so this is no Option.
-#[derive(Clone, Copy, Debug, PartialEq, Eq)]
-pub struct Convergence {
-    pub settled: bool,
-    pub count: usize,
-}
 
 // By Householder reduction and QL iteration. The iteration leaves the vectors column by column; they are turned to rows in the working list.
 fn reduce_and_iterate(
@@ -48,13 +40,10 @@ fn reduce_and_iterate(
     ensures value { result ≡ householder_convergence n a.now }
 {
     householder::reduce(n, a, work, values, vectors);
-    let r = ql::iterate(n, &mut values[..n], &mut work[..n], vectors);
+    let ended = ql::iterate(n, &mut values[..n], &mut work[..n], vectors);
     matrix::transpose(n, vectors, work);
     matrix::copy(a.len(), work, vectors);
-    Convergence {
-        settled: r.settled,
-        count: r.rounds,
-    }
+    ended
 }
 
 // Up to n = 32 by Jacobi rotations, which keep small values accurate; above it by reduction and iteration, which take one n³ and not one a sweep.
@@ -78,11 +67,7 @@ pub fn eigen(
     if n > 32 {
         return reduce_and_iterate(n, a, work, values, vectors);
     }
-    let r = jacobi::solve(n, a, work, values, vectors);
-    Convergence {
-        settled: r.settled,
-        count: r.sweeps,
-    }
+    jacobi::solve(n, a, work, values, vectors)
 }
 
 // SIZE, LENGTH and SPACE, over the lengths of the lists.

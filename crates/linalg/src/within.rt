@@ -25,11 +25,7 @@ fn reduce_and_iterate_within(n: usize, w: &mut [f64], values: &mut [f64]) -> Con
     let mut e = [0.0; 512];
     let at = n * n;
     householder_within::reduce_within(n, at, w, values, &mut e);
-    let r = ql::iterate(n, &mut values[..n], &mut e[..n], &mut w[at..]);
-    Convergence {
-        settled: r.settled,
-        count: r.rounds,
-    }
+    ql::iterate(n, &mut values[..n], &mut e[..n], &mut w[at..])
 }
 
 // By `eigen`, for a matrix that short arrays hold: the part of the list behind the matrix is the working list, and then takes the vectors.

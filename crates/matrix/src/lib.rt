@@ -9,6 +9,15 @@ ghost use Rattle.storage.specs.Rectangle.{by_rows};
 ghost use Rattle.matrix.specs.Matrix.{cell, kronecker, diagonal_cell};
 ghost use Rattle.matrix.specs.Layout.{flipped, Room, RowAt, CellAt, RunsRotated, RowsRotated, ColumnsRotated};
 
+// How a solver ended. Jacobi rotations settle where their test passes before one of the hundred sweeps, and the count is of sweeps done; the QL
+// iteration where each number meets its stopping test within its hundred rounds, and the count is of all rounds that went past the test, those that
+// broke off on a zero among them. That a solver settled says nothing of how near the answer is. The count stands in either case, so this is no Option.
+#[derive(Clone, Copy, Debug, PartialEq, Eq)]
+pub struct Convergence {
+    pub settled: bool,
+    pub count: usize,
+}
+
 // Where row i begins.
 pub fn row(n: usize, i: usize) -> usize
     requires fact_1 { n ≤ 512 }

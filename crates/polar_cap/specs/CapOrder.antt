@@ -12,7 +12,7 @@ use Rattle.storage.specs.Filled.{Filled, filled_none, filled_more, filled_in, fi
 use Rattle.storage.specs.Rectangle.{by_rows, by_row, by_rows_more}
 use Rattle.matrix.specs.Matrix.{cell, matrix_of, matrix_same, cell-within, length_matrix}
 use Rattle.matrix.specs.Layout.{flipped, plain, filled_tabulate, copied_plain}
-use Rattle.linalg.specs.declared.Convergence.{Convergence}
+use Rattle.matrix.specs.declared.Convergence.{Convergence}
 use Rattle.linalg.specs.Eigen.{eigen_vectors, eigen_convergence, eigen_limit}
 use Rattle.linalg.specs.Limits.{eigen_count_limit, eigen_few}
 use Rattle.linalg.specs.Solution.{settled_number}

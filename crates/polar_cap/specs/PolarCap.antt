@@ -9,7 +9,7 @@ use Rattle.number.specs.Ranking.{ranking}
 use Rattle.storage.specs.Tabulate.{tabulate}
 use Rattle.storage.specs.Triangle.{table_size}
 use Rattle.matrix.specs.Matrix.{cell}
-use Rattle.linalg.specs.declared.Convergence.{Convergence}
+use Rattle.matrix.specs.declared.Convergence.{Convergence}
 use Rattle.linalg.specs.Eigen.{eigen_vectors, eigen_convergence}
 use Rattle.linalg.specs.Solution.{settled_number}
 use Rattle.caps.specs.Caps.{degrees, concentration, grunbaum, rayleigh}

@@ -1,6 +1,6 @@
 -- The implicit QL iteration with Wilkinson shifts on a symmetric tridiagonal matrix (Golub & Van Loan, Algorithm 8.3.3; EISPACK's tql2), in the
 -- order of the Rust's operations: d is the diagonal, e what stands beside it, and q is multiplied by the rotations. Definitions only.
-use Rattle.std.specs.Prelude.{Bool, true, false, cond, not, ◌&&◌, List, ℕ, ◌+◌, ◌-◌, eqb, get_or, set, Float}
+use Rattle.std.specs.Prelude.{Bool, true, false, cond, not, ◌&&◌, List, ℕ, ◌+◌, ◌-◌, eqb, get_or, set, is_none, Float, None, Option, Some}
 use Rattle.std.specs.Float.{nan}
 use Rattle.std.specs.Float.Ieee.{lt, le, eq, neg}
 use Rattle.number.specs.Float64.{◌⊕◌, ◌⊖◌, ◌⊗◌, ◌⊘◌, double, zero64, one64, two64}
@@ -48,7 +48,7 @@ shifted l m g d e = at d m ⊖ at d l ⊕ at e l ⊘ (g ⊕ signed g (hypot_of g
 
 -- before the first rotation
 abbrev pub start : Float → Rotation
-start g = record { s = one64; c = one64; p = zero64; g = g; underflow = false }
+start g = record { s = one64; c = one64; p = zero64; g = g }
 
 -- the rotation that follows x: from the numbers d₀ at i and d₁ at i + 1 of the diagonal, from f and b, which are s and c times the number beside
 -- it, and from the size r of f and g
@@ -57,37 +57,34 @@ next x d₀ d₁ f b r =
     let s = f ⊘ r in
     let c = x.g ⊘ r in
     let h = (d₀ ⊖ (d₁ ⊖ x.p)) ⊗ s ⊕ two64 ⊗ c ⊗ b in
-    record { s = s; c = c; p = s ⊗ h; g = c ⊗ h ⊖ b; underflow = false }
+    record { s = s; c = c; p = s ⊗ h; g = c ⊗ h ⊖ b }
 
--- no rotation, since f and g are zero
-abbrev pub broken : Rotation → Rotation
-broken x = record { s = x.s; c = x.c; p = x.p; g = x.g; underflow = true }
-
--- the matrix, and the last rotation
+-- the matrix, and the last rotation, which is none once the round has broken off
 pub data Chase : Type 0 where
-  chase : (t : Tridiagonal) (x : Rotation) → Chase
+  chase : (t : Tridiagonal) (x : Option Rotation) → Chase
 
 -- with y what is left of the diagonal's number at i + 1: that number, and the columns i and i + 1 of q
 unfoldable pub rotated : ℕ → ℕ → Float → Rotation → List Float → List Float → List Float → Chase
-rotated n i y x d e q = chase (tridiagonal (set d (i + 1) (y ⊕ x.p)) e (rotate_columns x.c x.s n i (i + 1) q)) x
+rotated n i y x d e q = chase (tridiagonal (set d (i + 1) (y ⊕ x.p)) e (rotate_columns x.c x.s n i (i + 1) q)) (Some x)
 
--- the rotation of i and i + 1 where the size r is not zero; else the round breaks off
-unfoldable pub rotate_by : ℕ → ℕ → ℕ → Float → Float → Float → Chase → Chase
-rotate_by n m i r f b (chase (tridiagonal d e q) x) =
+-- the rotation of i and i + 1 where the size r is not zero; else f and g are zero, and the round breaks off
+unfoldable pub rotate_by : ℕ → ℕ → ℕ → Float → Float → Float → Tridiagonal → Rotation → Chase
+rotate_by n m i r f b (tridiagonal d e q) x =
     cond (eq r zero64)
-    (chase (tridiagonal (set d (i + 1) (at d (i + 1) ⊖ x.p)) (set e m zero64) q) (broken x))
+    (chase (tridiagonal (set d (i + 1) (at d (i + 1) ⊖ x.p)) (set e m zero64) q) None)
     (rotated n i (at d (i + 1) ⊖ x.p) (next x (at d i) (at d (i + 1)) f b r) d e q)
 
 -- the size stands beside the diagonal at i + 1 before
-unfoldable pub rotate_sized : ℕ → ℕ → ℕ → Float → Float → Float → Chase → Chase
-rotate_sized n m i r f b (chase (tridiagonal d e q) x) = rotate_by n m i r f b (chase (tridiagonal d (set e (i + 1) r) q) x)
+unfoldable pub rotate_sized : ℕ → ℕ → ℕ → Float → Float → Float → Tridiagonal → Rotation → Chase
+rotate_sized n m i r f b (tridiagonal d e q) x = rotate_by n m i r f b (tridiagonal d (set e (i + 1) r) q) x
 
 unfoldable pub rotate_at : ℕ → ℕ → ℕ → Chase → Chase
-rotate_at n m i (chase (tridiagonal d e q) x) =
-    rotate_sized n m i (hypot_of (x.s ⊗ at e i) x.g) (x.s ⊗ at e i) (x.c ⊗ at e i) (chase (tridiagonal d e q) x)
+rotate_at n m i (chase t None) = chase t None
+rotate_at n m i (chase (tridiagonal d e q) (Some x)) =
+    rotate_sized n m i (hypot_of (x.s ⊗ at e i) x.g) (x.s ⊗ at e i) (x.c ⊗ at e i) (tridiagonal d e q) x
 
 unfoldable pub broken_off : Chase → Bool
-broken_off (chase t x) = x.underflow
+broken_off (chase t x) = is_none x
 
 -- the rotations from m - 1 down to l
 unfoldable pub rotations : ℕ → ℕ → ℕ → Chase → Chase
@@ -95,12 +92,12 @@ rotations n l m c = iterate_down broken_off (rotate_at n m) l (m - l) c
 
 -- where the round did not break off: the numbers at l, and zero beside the diagonal at m
 unfoldable pub closed : ℕ → ℕ → Chase → Tridiagonal
-closed l m (chase (tridiagonal d e q) x) =
-    cond x.underflow (tridiagonal d e q) (tridiagonal (set d l (at d l ⊖ x.p)) (set (set e l x.g) m zero64) q)
+closed l m (chase t None) = t
+closed l m (chase (tridiagonal d e q) (Some x)) = tridiagonal (set d l (at d l ⊖ x.p)) (set (set e l x.g) m zero64) q
 
 unfoldable pub round : ℕ → ℕ → ℕ → Tridiagonal → Tridiagonal
 round n l m (tridiagonal d e q) =
-    closed l m (rotations n l m (chase (tridiagonal d e q) (start (shifted l m (ratio l d e) d e))))
+    closed l m (rotations n l m (chase (tridiagonal d e q) (Some (start (shifted l m (ratio l d e) d e)))))
 
 -- ---- the rounds
 -- the matrix, how many rounds there were, and whether the stopping test was met

@@ -1,5 +1,5 @@
 -- What the lists of the code hold, and one law for each step of its functions. Assumes nothing.
-use Rattle.std.specs.Prelude.{◌≡◌, Bool, true, false, cond, ◌&&◌, List, ℕ, ◌+◌, ◌-◌, ◌*◌, ◌≤◌, ◌<◌, eqb, length, set, Float}
+use Rattle.std.specs.Prelude.{◌≡◌, Bool, true, false, cond, ◌&&◌, List, ℕ, ◌+◌, ◌-◌, ◌*◌, ◌≤◌, ◌<◌, eqb, length, set, Float, None, Option, Some}
 use Rattle.std.proofs.Math.Path.{refl, ap}
 use Rattle.std.proofs.Common.{sym, ◌∙◌, eq-eqb, ne_eqb}
 use native.Mathlib.Omega.{arith}
@@ -10,7 +10,7 @@ use Rattle.number.specs.Hypot.{hypot_of}
 use Rattle.storage.specs.Iterate.{iterate_until, until_stop, until_step, until_done}
 use Rattle.matrix.specs.Layout.{transposed, Kept, Room, RowsRotated, kept_none, kept_then}
 use Rattle.ql.specs.declared.Rotation.{Rotation}
-use Rattle.ql.specs.Ql.{Tridiagonal, tridiagonal, at, block_end, ratio, shifted, start, next, broken, Chase, chase, rotated, rotate_by, rotate_sized, rotate_at}
+use Rattle.ql.specs.Ql.{Tridiagonal, tridiagonal, at, block_end, ratio, shifted, start, next, Chase, chase, rotated, rotate_by, rotate_sized, rotate_at}
 use Rattle.ql.specs.Ql.{rotations, closed, round, State, state, end_in, round_unless_alone, settled_in, rounds, and_before, rounds_at}
 
 -- where a block ends, and that this is inside
@@ -35,7 +35,7 @@ pub record Kept₃ (n : ℕ) (q₀ d e q : List Float) : Type 0 where
   pub of_e : length e ≡ n
   pub of_q : Kept (n * n) q₀ q
 
-pub record Became (n : ℕ) (c : Chase) (q₀ d e q : List Float) (x : Rotation) : Type 0 where
+pub record Became (n : ℕ) (c : Chase) (q₀ d e q : List Float) (x : Option Rotation) : Type 0 where
   pub is : chase (held n d e q) x ≡ c
   pub kept : Kept₃ n q₀ d e q
 
@@ -48,7 +48,7 @@ pub record Counted (n : ℕ) (s : State) (q₀ d e q : List Float) (k : ℕ) (me
   pub kept : Kept₃ n q₀ d e q
 
 -- d and e after the close of a round with the last rotation x
-pub record Closed (l m : ℕ) (x : Rotation) (d₀ e₀ d e : List Float) : Type 0 where
+pub record Closed (l m : ℕ) (x : Option Rotation) (d₀ e₀ d e : List Float) : Type 0 where
   pub is : (q : List Float) → tridiagonal d e q ≡ closed l m (chase (tridiagonal d₀ e₀ q) x)
   pub of_d : length d ≡ length d₀
   pub of_e : length e ≡ length e₀
@@ -56,18 +56,17 @@ pub record Closed (l m : ℕ) (x : Rotation) (d₀ e₀ d e : List Float) : Type
 -- ---- one rotation
 module _ (n m i : ℕ) (r f b : Float) (d e q : List Float) (x : Rotation) (a : Lists n d e q) where
   abbrev begun : Chase
-  begun = chase (held n d e q) x
+  begun = rotate_by n m i r f b (held n d e q) x
 
-  pub breaks : {y : Rotation} → eq r zero64 ≡ true → y ≡ broken x
-      → Became n (rotate_by n m i r f b begun) q (set d (i + 1) (at d (i + 1) ⊖ x.p)) (set e m zero64) q y
+  pub breaks : eq r zero64 ≡ true → Became n begun q (set d (i + 1) (at d (i + 1) ⊖ x.p)) (set e m zero64) q None
   unfolding rotate_by
-  breaks h g = record {
-    is = rw (h, g) refl;
+  breaks h = record {
+    is = rw h refl;
     kept = record { of_d = length-set d _ _ ∙ a.of_d; of_e = length-set e _ _ ∙ a.of_e; of_q = kept_none };
   }
 
   pub turns : {y : Rotation} {q' : List Float} → eq r zero64 ≡ false → y ≡ next x (at d i) (at d (i + 1)) f b r → RowsRotated y.c y.s n i (i + 1) q q'
-      → Became n (rotate_by n m i r f b begun) q (set d (i + 1) (at d (i + 1) ⊖ x.p ⊕ y.p)) e q' y
+      → Became n begun q (set d (i + 1) (at d (i + 1) ⊖ x.p ⊕ y.p)) e q' (Some y)
   unfolding rotate_by rotated
   turns h g k = record {
     is = rw (h, ← g, k.columns) refl;
@@ -79,23 +78,23 @@ pub sized_lists : {n : ℕ} {d e q : List Float} (i : ℕ) (r : Float) → Lists
 sized_lists {n} {d} {e} i r a = record { of_d = a.of_d; of_e = length-set e i r ∙ a.of_e; of_q = a.of_q }
 
 module _ (n m i : ℕ) (r f b : Float) (d e q : List Float) (x : Rotation) where
-  pub sized : {d' e' q' : List Float} {y : Rotation} → f ≡ x.s ⊗ at e i → b ≡ x.c ⊗ at e i → r ≡ hypot_of f x.g
-      → Became n (rotate_by n m i r f b (chase (held n d (set e (i + 1) r) q) x)) q d' e' q' y → Became n (rotate_at n m i (chase (held n d e q) x)) q d' e' q' y
+  pub sized : {d' e' q' : List Float} {y : Option Rotation} → f ≡ x.s ⊗ at e i → b ≡ x.c ⊗ at e i → r ≡ hypot_of f x.g
+      → Became n (rotate_by n m i r f b (held n d (set e (i + 1) r) q) x) q d' e' q' y → Became n (rotate_at n m i (chase (held n d e q) (Some x))) q d' e' q' y
   unfolding rotate_at rotate_sized
   sized g h k z = record { is = rw (← g, ← h, ← k) z.is; kept = z.kept }
 
 -- ---- one round
-module _ (l m : ℕ) (d e : List Float) (x : Rotation) where
-  pub closed-broken : x.underflow ≡ true → Closed l m x d e d e
+module _ (l m : ℕ) (d e : List Float) where
+  pub closed-broken : Closed l m None d e d e
   unfolding closed
-  closed-broken h = record { is = λ q. rw h refl; of_d = refl; of_e = refl }
+  closed-broken = record { is = λ q. refl; of_d = refl; of_e = refl }
 
-  pub closed_whole : x.underflow ≡ false → Closed l m x d e (set d l (at d l ⊖ x.p)) (set (set e l x.g) m zero64)
+  pub closed_whole : (x : Rotation) → Closed l m (Some x) d e (set d l (at d l ⊖ x.p)) (set (set e l x.g) m zero64)
   unfolding closed
-  closed_whole h = record { is = λ q. rw h refl; of_d = length-set d _ _; of_e = length-set (set e l x.g) _ _ ∙ length-set e _ _ }
+  closed_whole x = record { is = λ q. refl; of_d = length-set d _ _; of_e = length-set (set e l x.g) _ _ ∙ length-set e _ _ }
 
-pub round_is : (n l m : ℕ) (d e q d' e' q' d'' e'' : List Float) {g h : Float} {x y : Rotation} → h ≡ ratio l d e → g ≡ shifted l m h d e → x ≡ start g
-    → chase (tridiagonal d' e' q') y ≡ rotations n l m (chase (tridiagonal d e q) x) → Closed l m y d' e' d'' e''
+pub round_is : (n l m : ℕ) (d e q d' e' q' d'' e'' : List Float) {g h : Float} {x : Rotation} {y : Option Rotation} → h ≡ ratio l d e → g ≡ shifted l m h d e → x ≡ start g
+    → chase (tridiagonal d' e' q') y ≡ rotations n l m (chase (tridiagonal d e q) (Some x)) → Closed l m y d' e' d'' e''
     → tridiagonal d'' e'' q' ≡ round n l m (tridiagonal d e q)
 unfolding round
 round_is n l m d e q d' e' q' d'' e'' eh eg ex ey ec = ec.is q' ∙ ap (closed l m) ey ∙ rw (ex, eg, eh) refl

@@ -4,24 +4,18 @@
 
 ghost use Rattle.std.specs.Prelude.{◌≡◌, ◌&&◌, ℕ, ◌+◌, ◌≤◌, ◌<◌, length};
 ghost use Rattle.matrix.specs.Layout.{Kept, Room};
-ghost use Rattle.ql.specs.Ql.{chase, state, coupled, signed, ratio, shifted, start, next, broken, rotate_by, rotate_at, rotations, closed, round, rounds, iteration};
+ghost use Rattle.ql.specs.Ql.{chase, state, coupled, signed, ratio, shifted, start, next, rotate_by, rotate_at, rotations, closed, round, rounds, iteration};
 ghost use Rattle.ql.specs.QlLaws.{BlockEnd, Lists, held, Became, Closed, Rounded, Counted};
 
-// The last rotation of a round, as the cosine c and the sine s, with what the next one needs; and whether the round broke off.
-#[derive(Clone, Copy)]
+use matrix::Convergence;
+
+// The last rotation of a round, as the cosine c and the sine s, with what the next one needs.
+#[derive(Clone, Copy, Debug, PartialEq)]
 pub struct Rotation {
     pub s: f64,
     pub c: f64,
     pub p: f64,
     pub g: f64,
-    pub underflow: bool,
-}
-
-// How many rounds there were, and whether every stopping test was met. Both stand in either case, so this is no Option.
-#[derive(Clone, Copy)]
-pub struct Settled {
-    pub rounds: usize,
-    pub settled: bool,
 }
 
 // Whether the number beside the diagonal at m counts.
@@ -83,7 +77,6 @@ fn start(g: f64) -> Rotation
         c: 1.0,
         p: 0.0,
         g,
-        underflow: false,
     }
 }
 
@@ -99,19 +92,6 @@ fn next(x: Rotation, lower: f64, upper: f64, f: f64, b: f64, r: f64) -> Rotation
         c,
         p: s * h,
         g: c * h - b,
-        underflow: false,
-    }
-}
-
-fn broken(x: Rotation) -> Rotation
-    ensures { result ≡ broken x }
-{
-    Rotation {
-        s: x.s,
-        c: x.c,
-        p: x.p,
-        g: x.g,
-        underflow: true,
     }
 }
 
@@ -127,24 +107,24 @@ fn rotate_by(
     d: &mut [f64],
     e: &mut [f64],
     q: &mut [f64],
-) -> Rotation
+) -> Option<Rotation>
     requires fact_1 { Lists n d.old e.old q.old }
     requires fact_2 { i < m }
     requires fact_3 { m < n }
-    ensures { Became n (rotate_by n m i r f b (chase (held n d.old e.old q.old) x)) q.old
+    ensures { Became n (rotate_by n m i r f b (held n d.old e.old q.old) x) q.old
         d.new e.new q.new result }
 {
     let upper = d[i + 1];
     if r == 0.0 {
         d[i + 1] = upper - x.p;
         e[m] = 0.0;
-        return broken(x);
+        return None;
     }
     let lower = d[i];
     let y = next(x, lower, upper, f, b, r);
     d[i + 1] = upper - x.p + y.p;
     matrix::rotate_rows(q, n, i, i + 1, y.c, y.s);
-    y
+    Some(y)
 }
 
 // The next rotation of a round, of i and i + 1.
@@ -156,11 +136,11 @@ fn rotate_at(
     d: &mut [f64],
     e: &mut [f64],
     q: &mut [f64],
-) -> Rotation
+) -> Option<Rotation>
     requires fact_1 { Lists n d.old e.old q.old }
     requires fact_2 { i < m }
     requires fact_3 { m < n }
-    ensures { Became n (rotate_at n m i (chase (held n d.old e.old q.old) x)) q.old
+    ensures { Became n (rotate_at n m i (chase (held n d.old e.old q.old) (Some x))) q.old
         d.new e.new q.new result }
 {
     let beside = e[i];
@@ -171,7 +151,7 @@ fn rotate_at(
     rotate_by(n, m, i, r, f, b, x, d, e, q)
 }
 
-// The rotations from m - 1 down to l.
+// The rotations from m - 1 down to l; None where the round breaks off.
 fn rotations(
     n: usize,
     l: usize,
@@ -180,20 +160,17 @@ fn rotations(
     d: &mut [f64],
     e: &mut [f64],
     q: &mut [f64],
-) -> Rotation
+) -> Option<Rotation>
     requires fact_1 { Lists n d.old e.old q.old }
     requires fact_2 { m < n }
-    ensures { Became n (rotations n l m (chase (held n d.old e.old q.old) first)) q.old
+    ensures { Became n (rotations n l m (chase (held n d.old e.old q.old) (Some first))) q.old
         d.new e.new q.new result }
 {
     let mut x = first;
     for i in (l..m).rev() {
-        if x.underflow {
-            return x;
-        }
-        x = rotate_at(n, m, i, x, d, e, q);
+        x = rotate_at(n, m, i, x, d, e, q)?;
     }
-    x
+    Some(x)
 }
 
 // The numbers at l after a round that did not break off, and zero beside the diagonal at m.
@@ -202,11 +179,8 @@ fn close(n: usize, l: usize, m: usize, x: Rotation, d: &mut [f64], e: &mut [f64]
     requires fact_2 { length e.old ≡ n }
     requires fact_3 { l < n }
     requires fact_4 { m < n }
-    ensures { Closed l m x d.old e.old d.new e.new }
+    ensures { Closed l m (Some x) d.old e.old d.new e.new }
 {
-    if x.underflow {
-        return;
-    }
     d[l] = d[l] - x.p;
     e[l] = x.g;
     e[m] = 0.0;
@@ -221,32 +195,40 @@ fn round(n: usize, l: usize, m: usize, d: &mut [f64], e: &mut [f64], q: &mut [f6
         d.new e.new q.new }
 {
     let g = shifted(l, m, ratio(l, d, e), d, e);
-    let x = rotations(n, l, m, start(g), d, e, q);
-    close(n, l, m, x, d, e);
+    if let Some(x) = rotations(n, l, m, start(g), d, e, q) {
+        close(n, l, m, x, d, e);
+    }
 }
 
 // At most 100 rounds for l, counted on from `done`.
-fn rounds(n: usize, l: usize, done: usize, d: &mut [f64], e: &mut [f64], q: &mut [f64]) -> Settled
+fn rounds(
+    n: usize,
+    l: usize,
+    done: usize,
+    d: &mut [f64],
+    e: &mut [f64],
+    q: &mut [f64],
+) -> Convergence
     requires fact_1 { Lists n d.old e.old q.old }
     requires fact_2 { l < n }
     requires fact_3 { done ≤ 1000000 }
     ensures fact_1 { Counted n (rounds n l (held n d.old e.old q.old) done) q.old
-        d.new e.new q.new result.rounds result.settled }
-    ensures fact_2 { result.rounds ≤ done + 100 }
+        d.new e.new q.new result.count result.settled }
+    ensures fact_2 { result.count ≤ done + 100 }
 {
     for k in 0..100 {
         let m = block_end(n, l, d, e);
         if m == l {
-            return Settled {
-                rounds: done + k,
+            return Convergence {
                 settled: true,
+                count: done + k,
             };
         }
         round(n, l, m, d, e, q);
     }
-    Settled {
-        rounds: done + 100,
+    Convergence {
         settled: false,
+        count: done + 100,
     }
 }
 
@@ -257,20 +239,20 @@ fn both(a: bool, b: bool) -> bool
 }
 
 // The iteration: d becomes the eigenvalues.
-pub fn iterate(n: usize, d: &mut [f64], e: &mut [f64], q: &mut [f64]) -> Settled
+pub fn iterate(n: usize, d: &mut [f64], e: &mut [f64], q: &mut [f64]) -> Convergence
     requires { Lists n d.old e.old q.old }
     ensures { Counted n (iteration n (held n d.old e.old q.old)) q.old
-        d.new e.new q.new result.rounds result.settled }
+        d.new e.new q.new result.count result.settled }
 {
     let mut done: usize = 0;
     let mut settled = true;
     for l in 0..n {
         let r = rounds(n, l, done, d, e, q);
-        done = r.rounds;
+        done = r.count;
         settled = both(settled, r.settled);
     }
-    Settled {
-        rounds: done,
+    Convergence {
         settled,
+        count: done,
     }
 }

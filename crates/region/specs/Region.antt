@@ -7,7 +7,7 @@ use Rattle.refusal.specs.declared.Refusal.TheVariants.{Space}
 use Rattle.number.specs.Float64.{zero64}
 use Rattle.storage.specs.Triangle.{table_size, along}
 use Rattle.matrix.specs.Matrix.{cell}
-use Rattle.linalg.specs.declared.Convergence.{Convergence}
+use Rattle.matrix.specs.declared.Convergence.{Convergence}
 use Rattle.linalg.specs.Eigen.{eigen_values, eigen_vectors, eigen_convergence}
 use Rattle.ranking.specs.Places.{ranked_places}
 use Rattle.region_nodes.specs.Basis.{basis_size, place_of}

@@ -13,7 +13,7 @@ use Rattle.storage.specs.Triangle.{table_size}
 use Rattle.matrix.specs.Matrix.{cell, matrix_of, cell-within}
 use Rattle.matrix.specs.Layout.{flipped, plain, transposed, Kept, kept_then, kept_from, filled_kept, filled_plain, filled_transposed}
 use Rattle.householder_within.specs.Within.{Mirrored, back, back_behind, back_long, back-kept, lent_whole, lent_long}
-use Rattle.linalg.specs.declared.Convergence.{Convergence}
+use Rattle.matrix.specs.declared.Convergence.{Convergence}
 use Rattle.linalg.specs.Eigen.{eigen_values, eigen_vectors, eigen_convergence, eigen_limit}
 use Rattle.linalg.specs.Limits.{eigen_count_limit}
 use Rattle.linalg.specs.Within.{VectorsBehind}

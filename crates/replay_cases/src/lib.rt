@@ -56,16 +56,12 @@ pub fn room(case: &[u64], at: usize) -> usize
     within(case, at, 64)
 }
 
-// The functional of a number, in the order of the enum.
+// The functional of a number; WaterHeight for one above 5.
 pub fn functional(case: &[u64], at: usize) -> Functional {
-    match column(case, at) {
-        0 => Functional::Potential,
-        1 => Functional::GeoidHeight,
-        2 => Functional::GravityDisturbance,
-        3 => Functional::GravityAnomaly,
-        4 => Functional::RadialGradient,
-        _ => Functional::WaterHeight,
-    }
+    u32::try_from(column(case, at))
+        .ok()
+        .and_then(|k| Functional::try_from(k).ok())
+        .unwrap_or(Functional::WaterHeight)
 }
 
 // i + 1 where b holds, else what was before.

@@ -17,26 +17,9 @@ const WORD: u64 = 0x5a5a_1234_5a5a_9876;
 
 const BYTE: u8 = 0xa5;
 
-// Document 01's numbers of the tide systems.
-fn tide_number(t: TideSystem) -> u64 {
-    match t {
-        TideSystem::TideFree => 0,
-        TideSystem::ZeroTide => 1,
-        TideSystem::MeanTide => 2,
-        TideSystem::Unknown => 3,
-    }
-}
-
+// The tide system of a number; Unknown for one above 3.
 fn tide_system(number: u64) -> TideSystem {
-    if number == 0 {
-        TideSystem::TideFree
-    } else if number == 1 {
-        TideSystem::ZeroTide
-    } else if number == 2 {
-        TideSystem::MeanTide
-    } else {
-        TideSystem::Unknown
-    }
+    u32::try_from(number).map_or(TideSystem::Unknown, TideSystem::from)
 }
 
 // A head as five words, and from them.
@@ -46,7 +29,7 @@ fn words_of(h: FileHead) -> [u64; 5] {
     [
         h.gm,
         h.radius,
-        tide_number(tide),
+        u64::from(u32::from(tide)),
         h.nmax as u64,
         replay_cases::date_number(date),
     ]

@@ -45,20 +45,11 @@ pub fn entry<F: FnOnce(usize, &[f64], usize, usize) -> Result<f64, Refusal>>(
     }
 }
 
-fn tide_system(number: usize) -> TideSystem {
-    match number {
-        0 => TideSystem::TideFree,
-        1 => TideSystem::ZeroTide,
-        2 => TideSystem::MeanTide,
-        _ => TideSystem::Unknown,
-    }
-}
-
-fn dated_head(tide: usize, date: u64, nmax: usize) -> Head {
+fn dated_head(tide: u32, date: u64, nmax: usize) -> Head {
     Head {
         gm: 3.5,
         radius: 7.25,
-        tide_system: tide_system(tide),
+        tide_system: TideSystem::from(tide),
         date: replay_cases::date_of(date),
         nmax,
     }
@@ -164,7 +155,7 @@ pub fn zeros_head(nmax: usize) -> [u64; 5] {
 }
 
 // Of a field of degree 1 with this tide and the date of this number.
-pub fn truncated_head(tide: usize, cut: usize, date: u64) -> [u64; 5] {
+pub fn truncated_head(tide: u32, cut: usize, date: u64) -> [u64; 5] {
     let list = [0.5; 3];
     let mut c = [0.5; 3];
     let mut s = [0.5; 3];
@@ -172,7 +163,7 @@ pub fn truncated_head(tide: usize, cut: usize, date: u64) -> [u64; 5] {
     head_words(head.truncated(&list, &list, cut, &mut c, &mut s))
 }
 
-pub fn rescaled_head(tide: usize, date: u64) -> [u64; 5] {
+pub fn rescaled_head(tide: u32, date: u64) -> [u64; 5] {
     let list = [0.5; 3];
     let mut c = [0.5; 3];
     let mut s = [0.5; 3];

@@ -12,4 +12,4 @@ returns-then-n-gt32 c =
 pub returns : goal.returns
 returns c =
     let a = c.args in
-    let made = c.solve-r.ensures in record { filled = small_values a.n a.a.now (omega arith) made.values_after (omega arith); filled_2 = small_vectors a.n a.a.now (omega arith) made.vectors_after (omega arith); kept = made.kept; value = small-convergence a.n a.a.now (omega arith) made.sweeps_value_1 made.sweeps_value_2 }
+    let made = c.solve.ensures in record { filled = small_values a.n a.a.now (omega arith) made.values_after (omega arith); filled_2 = small_vectors a.n a.a.now (omega arith) made.vectors_after (omega arith); kept = made.kept; value = small-convergence a.n a.a.now (omega arith) made.sweeps_value_1 made.sweeps_value_2 }

@@ -15,8 +15,8 @@ slice_bounds-iterate-end-2 c = sym (let n = c.args.n in length-take-le n c.reduc
 pub slice_bounds-iterate-end-4 : goal.slice_bounds-iterate-end-4
 slice_bounds-iterate-end-4 c = sym (let n = c.args.n in length-take-le n c.reduce.new.work (omega (arith, c.reduce.ensures.kept_1.long)))
 
-pub iterate-r-requires : goal.iterate-r-requires
-iterate-r-requires c =
+pub iterate-ended-requires : goal.iterate-ended-requires
+iterate-ended-requires c =
     let small = c.requires.fact_1 in
     record {
       of_d = (let n = c.args.n in length-take-le n c.reduce.new.values (omega (arith, c.reduce.ensures.filled.long)));
@@ -28,9 +28,9 @@ pub copy-requires : goal.copy-requires
 copy-requires c =
     let pre = c.requires in
     let made = c.reduce.ensures in
-    let kept = c.iterate-r.ensures.kept in
+    let kept = c.iterate-ended.ensures.kept in
     let work = made.kept_1.long in
-    let lent = (lent_kept c.iterate-r.new.e c.reduce.new.work kept.of_e (omega arith)).long in
+    let lent = (lent_kept c.iterate-ended.new.e c.reduce.new.work kept.of_e (omega arith)).long in
     record { fact_1 = omega (arith, pre, work, lent, c.transpose.ensures.long); fact_2 = omega (arith, pre, made.kept_2.long, kept.of_q.long) }
 
 pub returns : goal.returns
@@ -39,10 +39,10 @@ returns c =
     let pre = c.requires in
     let made = c.reduce.ensures in
     let work = c.reduce.new.work in
-    let it = c.iterate-r.ensures in
-    let d = c.iterate-r.new.d in
-    let e = c.iterate-r.new.e in
-    let q = c.iterate-r.new.q in
+    let it = c.iterate-ended.ensures in
+    let d = c.iterate-ended.new.d in
+    let e = c.iterate-ended.new.e in
+    let q = c.iterate-ended.new.q in
     let room = made.kept_1.long in
     let done =
     iterated a.n a.a.now c.reduce.new.values work c.reduce.new.vectors made.filled made.filled_2 made.vectors_after it

@@ -5,7 +5,6 @@ use Rattle.ql.proofs.rotate_by.Goals as goal
 
 pub returns-then-r : goal.returns-then-r
 returns-then-r c = breaks _ _ _ _ _ _ _ _ _ _ c.requires.fact_1 c.if-r.true
-    c.broken.ensures
 
 pub returns : goal.returns
 returns c =

@@ -17,8 +17,8 @@ slice_bounds-iterate-end-2 c = sym (length-take-le c.args.n c.reduce_within.new.
 pub slice_bounds-iterate-end-3 : goal.slice_bounds-iterate-end-3
 slice_bounds-iterate-end-3 c = sym (length-take-le c.args.n c.reduce_within.new.e (omega (arith, c.requires, c.reduce_within.ensures.filled_2.long)))
 
-pub iterate-r-requires : goal.iterate-r-requires
-iterate-r-requires c =
+pub iterate-requires : goal.iterate-requires
+iterate-requires c =
     let n = c.args.n in
     let w = c.reduce_within.new.w in
     record {
@@ -38,10 +38,10 @@ returns c =
     let w = c.reduce_within.new.w in
     let values = c.reduce_within.new.d in
     let m = length w - n * n in
-    let it = c.iterate-r.ensures in
-    let d = c.iterate-r.new.d in
-    let e = c.iterate-r.new.e in
-    let q = c.iterate-r.new.q in
+    let it = c.iterate.ensures in
+    let d = c.iterate.new.d in
+    let e = c.iterate.new.e in
+    let q = c.iterate.new.q in
     let long = made.kept.long in
     let inside : n * n ≤ length w = omega (arith, c.requires, long) in
     let done =
