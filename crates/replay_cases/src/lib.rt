@@ -2,7 +2,8 @@
 // and the heads and latitudes of their models.
 #![tactic(auto)]
 
-ghost use Rattle.std.specs.Prelude.{◌+◌, ◌*◌, ◌<◌, ◌≤◌, length};
+ghost use Rattle.std.specs.Prelude.{◌≡◌, ◌+◌, ◌*◌, ◌<◌, ◌≤◌, length};
+ghost use Rattle.coefficients.specs.Model.{tide_number, tide_of};
 
 use coefficients::{Head, TideSystem};
 use functional::Functional;
@@ -204,6 +205,30 @@ pub fn date_number(date: Option<i32>) -> u64 {
     }
 }
 
+// Document 01's numbers of the tide systems, written out here so that the library's are not held against themselves: where a definition changes together
+// with its code, these are refused.
+pub fn tide_number(t: TideSystem) -> u64
+    ensures { result ≡ tide_number t }
+{
+    match t {
+        TideSystem::TideFree => 0,
+        TideSystem::ZeroTide => 1,
+        TideSystem::MeanTide => 2,
+        TideSystem::Unknown => 3,
+    }
+}
+
+pub fn tide_system(number: u64) -> TideSystem
+    ensures { result ≡ tide_of number }
+{
+    match number {
+        0 => TideSystem::TideFree,
+        1 => TideSystem::ZeroTide,
+        2 => TideSystem::MeanTide,
+        _ => TideSystem::Unknown,
+    }
+}
+
 // gm, radius, tide, N and date of a made model, zeros for a refusal.
 pub fn head_words(a: Result<Head, Refusal>) -> [u64; 5] {
     match a {
@@ -275,8 +300,27 @@ pub fn print_lengths<F: FnOnce(&mut [usize]) -> u32>(
     print_line(stdout, name, &words, due)
 }
 
-// The control lines of `replay_print`, and one by `print_line`: its second word is not the one due, and it must say "1 of 2".
+// Four lines, of two answers each whose second is not the one due, which must say "1 of 2": one by each function here and in `replay_print` that prints
+// a list beside the one due, by itself or by way of another (`show_front` prints by `show`, `print_lengths` and `print_cases` by `print_line` and
+// `show_words`).
 pub fn control(stdout: Stdout) -> io::Result<()> {
-    replay_print::control(stdout)?;
-    print_line(stdout, b"control of cases ", &[1, 2, 0], &[1, 3])
+    replay_print::show_front(
+        stdout,
+        b"control of numbers ",
+        &[1.0, 2.0, 3.0],
+        &[0x3ff0_0000_0000_0000, 0x4008_0000_0000_0000],
+    )?;
+    print_lengths(stdout, b"control of words ", |_| 1, &[1, 3])?;
+    replay_print::show_bytes(stdout, b"control of bytes ", &[1, 2], &[0, 1, 3], 1)?;
+    print_cases(
+        stdout,
+        b"control of cases ",
+        1,
+        |_| Seen {
+            number: 1,
+            touched: 2,
+        },
+        &[0],
+        &[1, 3],
+    )
 }

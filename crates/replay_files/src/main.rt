@@ -7,7 +7,6 @@ mod files;
 
 ghost use Rattle.std.specs.Prelude.{◌≡◌, ◌+◌, ◌≤◌, length};
 
-use coefficients::TideSystem;
 use model_file::FileHead;
 use std::io;
 use std::io::Stdout;
@@ -17,11 +16,6 @@ const WORD: u64 = 0x5a5a_1234_5a5a_9876;
 
 const BYTE: u8 = 0xa5;
 
-// The tide system of a number; Unknown for one above 3.
-fn tide_system(number: u64) -> TideSystem {
-    u32::try_from(number).map_or(TideSystem::Unknown, TideSystem::from)
-}
-
 // A head as five words, and from them.
 fn words_of(h: FileHead) -> [u64; 5] {
     let tide = h.tide;
@@ -29,7 +23,7 @@ fn words_of(h: FileHead) -> [u64; 5] {
     [
         h.gm,
         h.radius,
-        u64::from(u32::from(tide)),
+        replay_cases::tide_number(tide),
         h.nmax as u64,
         replay_cases::date_number(date),
     ]
@@ -39,7 +33,7 @@ fn head_of(words: &[u64; 5]) -> FileHead {
     FileHead {
         gm: words[0],
         radius: words[1],
-        tide: tide_system(words[2]),
+        tide: replay_cases::tide_system(words[2]),
         date: replay_cases::date_of(words[4]),
         nmax: words[3] as usize,
     }

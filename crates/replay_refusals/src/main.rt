@@ -185,7 +185,7 @@ fn print_zeros_heads(stdout: Stdout) -> io::Result<()> {
 // The head of a field of degree 1 with a tide system and a date, cut at `cut`, and the one due at index `at`.
 fn print_truncated_head(
     stdout: Stdout,
-    tide: u32,
+    tide: u64,
     cut: usize,
     date: u64,
     at: usize,
@@ -212,7 +212,7 @@ fn print_truncated_heads(stdout: Stdout) -> io::Result<()> {
 }
 
 // The head of a rescaled field with a tide system and a date, and the one due at index `at`.
-fn print_rescaled_head(stdout: Stdout, tide: u32, date: u64, at: usize) -> io::Result<()>
+fn print_rescaled_head(stdout: Stdout, tide: u64, date: u64, at: usize) -> io::Result<()>
     requires { at ≤ 60 }
 {
     replay_print::show_words(

@@ -1,7 +1,7 @@
 // The calls of functional and coefficients, each on the sizes and lengths of a case: parts of `list` are its inputs, parts of x and y its outputs.
 ghost use Rattle.std.specs.Prelude.{◌≤◌, ◌<◌, length};
 
-use coefficients::{Head, TideSystem};
+use coefficients::Head;
 use refusal::Refusal;
 use replay_cases::{functional, head_of, head_words, of_result, room, size};
 
@@ -45,11 +45,11 @@ pub fn entry<F: FnOnce(usize, &[f64], usize, usize) -> Result<f64, Refusal>>(
     }
 }
 
-fn dated_head(tide: u32, date: u64, nmax: usize) -> Head {
+fn dated_head(tide: u64, date: u64, nmax: usize) -> Head {
     Head {
         gm: 3.5,
         radius: 7.25,
-        tide_system: TideSystem::from(tide),
+        tide_system: replay_cases::tide_system(tide),
         date: replay_cases::date_of(date),
         nmax,
     }
@@ -155,7 +155,7 @@ pub fn zeros_head(nmax: usize) -> [u64; 5] {
 }
 
 // Of a field of degree 1 with this tide and the date of this number.
-pub fn truncated_head(tide: u32, cut: usize, date: u64) -> [u64; 5] {
+pub fn truncated_head(tide: u64, cut: usize, date: u64) -> [u64; 5] {
     let list = [0.5; 3];
     let mut c = [0.5; 3];
     let mut s = [0.5; 3];
@@ -163,7 +163,7 @@ pub fn truncated_head(tide: u32, cut: usize, date: u64) -> [u64; 5] {
     head_words(head.truncated(&list, &list, cut, &mut c, &mut s))
 }
 
-pub fn rescaled_head(tide: u32, date: u64) -> [u64; 5] {
+pub fn rescaled_head(tide: u64, date: u64) -> [u64; 5] {
     let list = [0.5; 3];
     let mut c = [0.5; 3];
     let mut s = [0.5; 3];
