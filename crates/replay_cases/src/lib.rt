@@ -307,7 +307,7 @@ pub fn control(stdout: Stdout) -> io::Result<()> {
     replay_print::show_front(
         stdout,
         b"control of numbers ",
-        &[1.0, 2.0, 3.0],
+        &[1.0, 2.0, 1.0],
         &[0x3ff0_0000_0000_0000, 0x4008_0000_0000_0000],
     )?;
     print_lengths(stdout, b"control of words ", |_| 1, &[1, 3])?;

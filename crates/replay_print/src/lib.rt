@@ -65,15 +65,15 @@ pub fn show_bytes(
     print(stdout, &out[..end])
 }
 
-// Prints three lines, one by each function above, of two answers whose second is not the one due. Nothing is promised of what is printed, so that a
-// function that holds a list against itself, or against another part of the list, is proved too; here it says something else than "1 of 2".
+// Prints three lines of two answers whose second is not the one due: one by each function above, where `show_front` prints by `show`. Nothing is promised
+// of what is printed, so that a function that holds a list against itself, or against another part of the list, is proved too; here it says something else
+// than "1 of 2".
 pub fn control(stdout: Stdout) -> io::Result<()> {
-    show(
+    show_front(
         stdout,
         b"control of numbers ",
-        &[1.0, 2.0],
-        &[0, 0x3ff0_0000_0000_0000, 0x4008_0000_0000_0000],
-        1,
+        &[1.0, 2.0, 1.0],
+        &[0x3ff0_0000_0000_0000, 0x4008_0000_0000_0000],
     )?;
     show_words(stdout, b"control of words ", &[1, 2], &[0, 1, 3], 1)?;
     show_bytes(stdout, b"control of bytes ", &[1, 2], &[0, 1, 3], 1)
