@@ -10,7 +10,7 @@ ghost use Rattle.std.specs.Prelude.{◌+◌, ◌<◌, ◌≤◌, length};
 use functional::Functional;
 use replay::numbers;
 use replay_cases::{bits, earth};
-use replay_print::{show, show_front, show_words};
+use replay_print::{show, show_words};
 use std::io;
 use std::io::Stdout;
 
@@ -215,7 +215,13 @@ fn show_cap<const NODES: usize, const PAIRS: usize>(
                 &vectors[..numbers_of_vectors],
                 words,
             )?;
-            show_front(stdout, b"polar_cap settled and counts ", &settled, ended)?;
+            show(
+                stdout,
+                b"polar_cap settled and counts ",
+                &settled[..ended.len()],
+                ended,
+                0,
+            )?;
         }
         Err(_) => {
             replay_print::print(stdout, b"polar_cap refused\n")?;

@@ -9,7 +9,7 @@ ghost use Rattle.std.specs.Prelude.{◌≡◌, ◌+◌, ◌<◌, ◌≤◌, leng
 use legendre::Latitude;
 use refusal::Refusal;
 use replay_cases::{MARK, latitude_of};
-use replay_print::{show, show_front};
+use replay_print::show;
 use std::io;
 use std::io::Stdout;
 
@@ -129,8 +129,20 @@ fn show_at(stdout: Stdout, a: &[u64; 15], b: &[u64; 15], words: &[u64; 32]) -> i
 fn show_large_new(stdout: Stdout, a: &mut [f64; 8646], b: &mut [f64; 8646]) -> io::Result<()> {
     match legendre::new(130, a, b) {
         Ok(()) => {
-            show_front(stdout, b"new 130, front of a ", a, &answers::A)?;
-            show_front(stdout, b"new 130, front of b ", b, &answers::B)?;
+            show(
+                stdout,
+                b"new 130, front of a ",
+                &a[..answers::A.len()],
+                &answers::A,
+                0,
+            )?;
+            show(
+                stdout,
+                b"new 130, front of b ",
+                &b[..answers::B.len()],
+                &answers::B,
+                0,
+            )?;
             show_large_compute(stdout, latitude_of(&answers::MIDDLE, 0), a, b)?;
             show_large_derivative(stdout, latitude_of(&answers::MIDDLE, 0), a, b)?;
         }

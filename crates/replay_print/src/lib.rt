@@ -27,14 +27,6 @@ pub fn show(
     print(stdout, &out[..end])
 }
 
-// Prints the line of the front of a list, as many numbers as there are due.
-pub fn show_front(stdout: Stdout, name: &[u8], list: &[f64], due: &[u64]) -> io::Result<()>
-    requires due { length due.now ≤ length list.now }
-    requires name { length name.now ≤ 80 }
-{
-    show(stdout, name, &list[..due.len()], due, 0)
-}
-
 // Prints the line of words.
 pub fn show_words(
     stdout: Stdout,
@@ -65,16 +57,24 @@ pub fn show_bytes(
     print(stdout, &out[..end])
 }
 
-// Prints three lines of two answers whose second is not the one due: one by each function above, where `show_front` prints by `show`. Nothing is promised
-// of what is printed, so that a function that holds a list against itself, or against another part of the list, is proved too; here it says something else
-// than "1 of 2".
+// Prints three lines, one by each function above, of two answers whose second is not the one due. Nothing is promised of what is printed, so that a
+// function that holds a list against itself, or against another part of the list, is proved too; here it says something else than "1 of 2".
 pub fn control(stdout: Stdout) -> io::Result<()> {
-    show_front(
+    show(
         stdout,
         b"control of numbers ",
-        &[1.0, 2.0, 1.0],
-        &[0x3ff0_0000_0000_0000, 0x4008_0000_0000_0000],
+        &[1.0, 2.0],
+        &[0, 0x3ff0_0000_0000_0000, 0x4008_0000_0000_0000],
+        1,
     )?;
     show_words(stdout, b"control of words ", &[1, 2], &[0, 1, 3], 1)?;
     show_bytes(stdout, b"control of bytes ", &[1, 2], &[0, 1, 3], 1)
+}
+
+// Prints the line of the front of a list, as many numbers as there are due. Its control line is the one of numbers in `replay_cases::control`.
+pub fn show_front(stdout: Stdout, name: &[u8], list: &[f64], due: &[u64]) -> io::Result<()>
+    requires due { length due.now ≤ length list.now }
+    requires name { length name.now ≤ 80 }
+{
+    show(stdout, name, &list[..due.len()], due, 0)
 }
